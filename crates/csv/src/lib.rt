@@ -1,0 +1,1 @@
+// Records, fields and numbers of the tables: definitions, in specs/.

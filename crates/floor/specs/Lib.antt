@@ -1,0 +1,6 @@
+pub mod Refusal
+pub mod Plan
+pub mod Roads
+pub mod Carts
+pub mod Paths
+pub mod Tables

@@ -1,0 +1,103 @@
+-- The plan slice: the tables as handed in, and the log of accepted reports (docs/DECISIONS.md, "The plan slice").
+-- Assumes nothing.
+use Prim.Native.Nat.{ℕ, suc, _+_, _-_}
+use mathlib.Core.Bool.{Bool, true, false}
+use mathlib.Core.List.{List, [], _∷_, _++_, map}
+use mathlib.Core.Option.{Option, none, some}
+use lib.Dec.{eqb}
+use lib.ListN.{length, take, drop, replicate}
+use Rattle.words.specs.Words.{little, words}
+use Rattle.csv.specs.Text.{same}
+use Rattle.floor.specs.Refusal.{Judged, refused, accepted}
+use Rattle.floor.specs.Plan.{Plan}
+use Rattle.floor.specs.Tables.{Tables}
+use Rattle.network.specs.Judge.{judge}
+use Rattle.schedule.specs.Book.{Report, Book, first-book, acceptable, pass-next}
+
+-- "docs/ lists each need": a plan slice's, and those of the times slice (8 bytes an event) and the chain slices (2 bytes, and 1, an item)
+abbrev pub plan-need : ℕ
+plan-need = 233_472
+
+abbrev pub times-need : ℕ
+times-need = 32_768
+
+abbrev pub chain-bounds-need : ℕ
+chain-bounds-need = 8192
+
+abbrev pub chain-directions-need : ℕ
+chain-directions-need = 4096
+
+-- "unused places are zero": n places that begin with these bytes
+unfoldable pub padded : ℕ → List ℕ → List ℕ
+padded n l = l ++ replicate (n - length l) 0
+
+-- what a held plan's slice of n places holds: the three tables, 65,536 places each; the carts of the reports accepted, one place each, 4,096 in
+-- all; their times, eight places each, 32,768 in all; zeros to the end
+unfoldable pub plan-slice : ℕ → Tables → List Report → List ℕ
+plan-slice n ts log =
+    padded n
+    (padded 65_536 (ts .roads)
+    ++ (padded 65_536 (ts .carts)
+    ++ (padded 65_536 (ts .paths)
+    ++ (padded 4096 (map (λ (r : Report). r .cart) log)
+    ++ padded 32_768 (words 8 (map (λ (r : Report). r .time) log))))))
+
+-- the bytes before the first zero: no accepted table has a zero byte, and carts count from 1
+unfoldable pub until-zero : List ℕ → List ℕ
+until-zero [] = []
+until-zero (b ∷ bs) = elim (eqb b 0) [ true ↦ [] | false ↦ b ∷ until-zero bs ]
+
+-- the tables that a plan slice holds
+unfoldable pub tables-in : List ℕ → Tables
+tables-in s =
+    record {
+      roads = until-zero (take 65_536 s);
+      carts = until-zero (take 65_536 (drop 65_536 s));
+      paths = until-zero (take 65_536 (drop 131_072 s));
+    }
+
+-- the reports of these carts, their times in the bytes s
+unfoldable pub entries : List ℕ → List ℕ → List Report
+entries [] s = []
+entries (c ∷ cs) s = record { cart = c; time = little (take 8 s) } ∷ entries cs (drop 8 s)
+
+-- the log that a plan slice holds
+unfoldable pub log-in : List ℕ → List Report
+log-in s = entries (until-zero (take 4096 (drop 196_608 s))) (drop 200_704 s)
+
+-- the book after some reports, if each in its turn is accepted
+unfoldable pub replay : Plan → Book → List Report → Option Book
+replay p b [] = some b
+replay p b (r ∷ rs) = elim (acceptable p b r) [ true ↦ replay p (pass-next b r) rs | false ↦ none ]
+
+-- a plan held: the tables and the log in its slice, and the plan and the book that they come to
+pub record Held : Type 0 where
+  pub tables : Tables
+  pub log : List Report
+  pub plan : Plan
+  pub book : Book
+
+-- the slice holds these tables and this log, and nothing else
+unfoldable pub nothing-else : List ℕ → Tables → List Report → Bool
+nothing-else s ts log = same (plan-slice (length s) ts log) s
+
+unfoldable pub held-by : List ℕ → Tables → List Report → Judged Plan → Option Held
+held-by s ts log (refused r) = none
+held-by s ts log (accepted p) =
+    elim (replay p (first-book p) log) [
+      none ↦ none
+    | some b ↦ elim (nothing-else s ts log) [ true ↦ some (record { tables = ts; log = log; plan = p; book = b }) | false ↦ none ]
+    ]
+
+-- the plan that a slice holds, if it holds what an accepted load, with accepted reports since, leaves: the tables in it are accepted, so is each
+-- report of the log in its turn, and there is nothing else (`Claim.Ten` states it)
+unfoldable pub held : List ℕ → Option Held
+held s =
+    let ts : Tables = tables-in s in
+    let log : List Report = log-in s in
+    held-by s ts log (judge ts)
+
+-- Names every definition of this module, for a proof that computes with them all.
+unfoldable pub open-plan-slice : Unit {0}
+unfolding padded plan-slice until-zero tables-in entries log-in replay nothing-else held-by held
+open-plan-slice = tt

@@ -1,0 +1,4 @@
+pub mod Events
+pub mod Bounds
+pub mod Judge
+pub mod Meaning

@@ -1,0 +1,79 @@
+-- The marker's book (document 01, "Reports and timetable").
+-- Assumes nothing.
+use Prim.Native.Nat.{ℕ, suc, _-_}
+use mathlib.Core.Bool.{Bool, true, false, _&&_, cond}
+use mathlib.Core.List.{List, [], _∷_, _++_, map, flatMap, zip}
+use lib.Dec.{leb, ltb}
+use lib.ListN.{length, getD, set, drop}
+use Rattle.floor.specs.Plan.{Plan}
+use Rattle.network.specs.Events.{Run, runs-of, run-points, run-events}
+
+-- "A report names a cart and a time"
+pub record Report : Type 0 where
+  pub cart : ℕ
+  pub time : ℕ
+
+-- "The book holds the clock and, for each cart, the points passed with their times": a cart passes its points in their order, so the times tell which
+pub record Book : Type 0 where
+  pub clock : ℕ
+  pub passed : List (List ℕ)
+
+-- "at first the clock is 0 and each cart's first entry is passed, at 0"
+unfoldable pub first-book : Plan → Book
+first-book p = record { clock = 0; passed = map (λ (r : Run). 0 ∷ []) (runs-of p) }
+
+-- how many points a cart has, and the times of those it has passed; "Carts count from 1", so nobody is number 0, and a cart that isn't there has none
+unfoldable pub points-of : Plan → ℕ → ℕ
+points-of p c = getD (0 ∷ map (λ (r : Run). length (run-points r)) (runs-of p)) c 0
+
+unfoldable pub passed-by : Book → ℕ → List ℕ
+passed-by b c = getD ([] ∷ b .passed) c []
+
+-- whether its cart is there and has not "passed all its points"
+unfoldable pub has-next : Plan → Book → Report → Bool
+has-next p b r = ltb (length (passed-by b (r .cart))) (points-of p (r .cart))
+
+-- whether its time is not "below the clock or over 10^12"
+unfoldable pub in-time : Book → Report → Bool
+in-time b r = leb (b .clock) (r .time) && leb (r .time) 1_000_000_000_000
+
+-- "Any other is accepted"
+unfoldable pub acceptable : Plan → Book → Report → Bool
+acceptable p b r = has-next p b r && in-time b r
+
+-- "the cart's next point is passed at the time reported, which becomes the clock"
+unfoldable pub pass-next : Book → Report → Book
+pass-next b r =
+    record { clock = r .time; passed = set (b .passed) (r .cart - 1) (passed-by b (r .cart) ++ (r .time ∷ [])) }
+
+-- "These three leave the book as it was."
+unfoldable pub book-after : Plan → Book → Report → Book
+book-after p b r = cond (acceptable p b r) (pass-next b r) b
+
+-- a point passed: its event, and its time
+pub record Passed : Type 0 where
+  pub event : ℕ
+  pub time : ℕ
+
+-- a cart's points passed, and those "still to be passed"; ts are the times of those passed
+unfoldable pub run-passed : Run → List ℕ → List Passed
+run-passed r ts = map (λ (x : ℕ × ℕ). record { event = x .0; time = x .1 }) (zip (run-events r) ts)
+
+unfoldable pub run-to-pass : Run → List ℕ → List ℕ
+run-to-pass r ts = drop (length ts) (run-events r)
+
+-- something of each cart and its points passed, cart by cart
+unfoldable pub by-cart : {A : Type 0} → (Run → List ℕ → List A) → Plan → Book → List A
+by-cart {A} f p b = flatMap (λ (x : Run × List ℕ). f (x .0) (x .1)) (zip (runs-of p) (b .passed))
+
+-- the points that the book has as passed, and those "still to be passed"
+unfoldable pub passed-points : Plan → Book → List Passed
+passed-points = by-cart run-passed
+
+unfoldable pub points-to-pass : Plan → Book → List ℕ
+points-to-pass = by-cart run-to-pass
+
+-- Names every definition of this module, for a proof that computes with them all.
+unfoldable pub open-book : Unit {0}
+unfolding first-book points-of passed-by has-next in-time acceptable pass-next book-after zip flatMap run-passed run-to-pass by-cart passed-points points-to-pass
+open-book = tt

@@ -1,0 +1,5 @@
+pub mod Book
+pub mod Added
+pub mod Fits
+pub mod Timetable
+pub mod Chain

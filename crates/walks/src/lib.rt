@@ -1,0 +1,1 @@
+// Greatest sums over walks of a graph with weighted arcs: definitions, in specs/.
