@@ -4,3 +4,4 @@ pub mod Roads
 pub mod Carts
 pub mod Paths
 pub mod Tables
+pub mod Examples
