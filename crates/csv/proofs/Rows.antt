@@ -4,9 +4,10 @@ use Prim.Native.String.{String}
 use mathlib.Core.Path.{_≡_, refl}
 use mathlib.Core.List.{List, [], _∷_, map}
 use mathlib.Core.Option.{Option, none, some}
-use Rattle.csv.specs.Text.{open-text, bytes}
-use Rattle.csv.specs.Records.{open-records, records, fields}
-use Rattle.csv.specs.Number.{open-number, number}
+use Rattle.csv.specs.Text.{bytes}
+use Rattle.csv.specs.Records.{records, fields}
+use Rattle.csv.specs.Number.{number}
+use Rattle.csv.specs.Open.{open-csv}
 
 -- a text's pieces, and those that are expected of it
 record Split : Type 0 where
@@ -27,7 +28,7 @@ record-rows =
     ∷ []
 
 records-follow : map (λ (r : Split). records (bytes (r .text))) record-rows ≡ map (λ (r : Split). map bytes (r .gives)) record-rows
-unfolding open-text open-records record-rows
+unfolding open-csv record-rows
 records-follow = refl
 
 field-rows : List Split
@@ -40,7 +41,7 @@ field-rows =
     ∷ []
 
 fields-follow : map (λ (r : Split). fields (bytes (r .text))) field-rows ≡ map (λ (r : Split). map bytes (r .gives)) field-rows
-unfolding open-text open-records field-rows
+unfolding open-csv field-rows
 fields-follow = refl
 
 -- "A number is "0" or up to ten decimal digits of which the first is not 0."
@@ -65,5 +66,5 @@ number-rows =
     ∷ []
 
 numbers-follow : map (λ (r : Number). number (bytes (r .text))) number-rows ≡ map (λ (r : Number). r .gives) number-rows
-unfolding open-text open-number number-rows
+unfolding open-csv number-rows
 numbers-follow = refl

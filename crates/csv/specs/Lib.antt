@@ -1,3 +1,4 @@
 pub mod Text
 pub mod Records
 pub mod Number
+pub mod Open

@@ -4,16 +4,12 @@ use Prim.Native.String.{String}
 use mathlib.Core.Path.{_≡_, refl}
 use mathlib.Core.List.{List, [], _∷_, _++_, map}
 use lib.ListN.{replicate}
-use Rattle.csv.specs.Text.{open-text, bytes}
-use Rattle.csv.specs.Records.{open-records}
-use Rattle.csv.specs.Number.{open-number}
-use Rattle.floor.specs.Refusal.{open-refusal, Judged, refused, accepted, reason-number, table-number}
-use Rattle.floor.specs.Plan.{open-plan, Plan}
-use Rattle.floor.specs.Roads.{open-roads}
-use Rattle.floor.specs.Carts.{open-carts}
-use Rattle.floor.specs.Paths.{open-paths}
-use Rattle.floor.specs.Tables.{open-tables, Tables, read-tables}
-use Rattle.floor.specs.Examples.{open-examples, lines, tables, the-pair, on-AB, A-to-B, margin-of, ring-of-three}
+use Rattle.csv.specs.Text.{bytes}
+use Rattle.floor.specs.Refusal.{Judged, refused, accepted, reason-number, table-number}
+use Rattle.floor.specs.Plan.{Plan}
+use Rattle.floor.specs.Tables.{Tables, read-tables}
+use Rattle.floor.specs.Examples.{lines, tables, the-pair, on-AB, A-to-B, margin-of, ring-of-three}
+use Rattle.floor.specs.Open.{open-floor}
 
 -- tables, and the refusal, table and record that they meet (0, 0, 0: accepted)
 record Row : Type 0 where
@@ -151,5 +147,5 @@ unfolding accepted-rows road-rows cart-rows path-rows collision-rows
 all-rows = accepted-rows ++ (road-rows ++ (cart-rows ++ (path-rows ++ collision-rows)))
 
 refusals-follow : map (λ (r : Row). met (read-tables (r .given))) all-rows ≡ map (λ (r : Row). r .meets) all-rows
-unfolding open-text open-records open-number open-refusal open-plan open-roads open-carts open-paths open-tables open-examples met AB roads carts paths long collision all-rows
+unfolding open-floor met AB roads carts paths long collision all-rows
 refusals-follow = refl

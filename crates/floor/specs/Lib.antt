@@ -5,3 +5,4 @@ pub mod Carts
 pub mod Paths
 pub mod Tables
 pub mod Examples
+pub mod Open

@@ -15,15 +15,15 @@ use Rattle.floor.specs.declared.Refusal.{Refusal}
 
 -- the refusals' numbers, in the document's words
 unfoldable pub reason-number : Reason → ℕ
-reason-number Layout = 1 -- "a byte, field count, number form or first line (record 0) breaks the layout"
-reason-number Range = 2 -- "a number outside its range"
-reason-number RoadPair = 3 -- "a road from a cell to itself, or a second road for a pair"
-reason-number Limit = 4 -- "a count over its limit, at the record that first passes it"
-reason-number NoCarts = 5 -- "no carts (table 2, record 0)"
-reason-number PathCount = 6 -- "paths and carts differ in count (table 3, record 0)"
-reason-number OffRoad = 7 -- "two successive cells neither equal nor joined by a road"
-reason-number SameCell = 8 -- "two carts in one cell at one step"
-reason-number Exchange = 9 -- "two carts exchange cells in one step"
+reason-number Layout = 1  -- "a byte, field count, number form or first line (record 0) breaks the layout"
+reason-number Range = 2  -- "a number outside its range"
+reason-number RoadPair = 3  -- "a road from a cell to itself, or a second road for a pair"
+reason-number Limit = 4  -- "a count over its limit, at the record that first passes it"
+reason-number NoCarts = 5  -- "no carts (table 2, record 0)"
+reason-number PathCount = 6  -- "paths and carts differ in count (table 3, record 0)"
+reason-number OffRoad = 7  -- "two successive cells neither equal nor joined by a road"
+reason-number SameCell = 8  -- "two carts in one cell at one step"
+reason-number Exchange = 9  -- "two carts exchange cells in one step"
 
 -- "the table (1 roads, 2 carts, 3 paths, 0 none)"
 unfoldable pub table-number : Table → ℕ

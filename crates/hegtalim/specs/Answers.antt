@@ -24,15 +24,15 @@ loaded-answer (Loaded.Refused r) = record { refusal = reason-number (r .reason);
 unfoldable pub reported-answer : Reported → Answer
 reported-answer Reported.Taken = plain 0
 reported-answer Reported.TooShort = plain 14
-reported-answer Reported.NoPlan = plain 10 -- "no plan held"
-reported-answer Reported.NoPoint = plain 11 -- "no such cart, or its last event has been passed"
-reported-answer Reported.BadTime = plain 12 -- "a time below the clock or over 10^12"
+reported-answer Reported.NoPlan = plain 10  -- "no plan held"
+reported-answer Reported.NoPoint = plain 11  -- "no such cart, or its last event has been passed"
+reported-answer Reported.BadTime = plain 12  -- "a time below the clock or over 10^12"
 
 unfoldable pub timed-answer : Timed → Answer
 timed-answer (Timed.Times k) = record { refusal = 0; table = 0; value = k }
 timed-answer Timed.TooShort = plain 14
 timed-answer Timed.NoPlan = plain 10
-timed-answer (Timed.NoTimes n) = record { refusal = 13; table = 0; value = n } -- "its length given in the answer"
+timed-answer (Timed.NoTimes n) = record { refusal = 13; table = 0; value = n }  -- "its length given in the answer"
 
 -- the one number that a C function returns: the refusal in the low byte, the table in the next, the value from bit 32 up
 unfoldable pub c-number : Answer → ℕ

@@ -36,8 +36,8 @@ load-judged ts n (accepted p) = record { answer = Loaded.Held; plan = plan-slice
 unfoldable pub load : Tables → List ℕ → Load
 load ts plan =
     elim (leb plan-need (length plan)) [
-      false ↦ record { answer = Loaded.TooShort; plan = plan }
-    | true ↦ load-judged ts (length plan) (judge ts)
+      | false ↦ record { answer = Loaded.TooShort; plan = plan }
+      | true ↦ load-judged ts (length plan) (judge ts)
     ]
 
 -- ---- report
@@ -63,8 +63,8 @@ report-held s r (some h) =
 unfoldable pub report : List ℕ → Report → Reporting
 report s r =
     elim (leb plan-need (length s)) [
-      false ↦ record { answer = Reported.TooShort; plan = s }
-    | true ↦ report-held s r (held s)
+      | false ↦ record { answer = Reported.TooShort; plan = s }
+      | true ↦ report-held s r (held s)
     ]
 
 -- ---- timetable

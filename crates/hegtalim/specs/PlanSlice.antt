@@ -85,8 +85,8 @@ unfoldable pub held-by : List ℕ → Tables → List Report → Judged Plan →
 held-by s ts log (refused r) = none
 held-by s ts log (accepted p) =
     elim (replay p (first-book p) log) [
-      none ↦ none
-    | some b ↦ elim (nothing-else s ts log) [ true ↦ some (record { tables = ts; log = log; plan = p; book = b }) | false ↦ none ]
+      | none ↦ none
+      | some b ↦ elim (nothing-else s ts log) [ true ↦ some (record { tables = ts; log = log; plan = p; book = b }) | false ↦ none ]
     ]
 
 -- the plan that a slice holds, if it holds what an accepted load, with accepted reports since, leaves: the tables in it are accepted, so is each

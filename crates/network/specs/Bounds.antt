@@ -23,18 +23,17 @@ no-earlier u v = record { from = u; to = v; lo = 0; hi = none }
 unfoldable pub start-bounds : List Run → List Bound
 start-bounds = map (λ (r : Run). record { from = 0; to = r .first; lo = 0; hi = some 0 })
 
+-- "A move has three parts of lengths margin, length − 2 × margin, margin."
+unfoldable pub part-lengths : Road → List ℕ
+part-lengths d = d .margin ∷ (d .length - 2 * d .margin) ∷ d .margin ∷ []
+
 -- a part of a move: its length, and the slowest speed on it, if there is one
 pub record Part : Type 0 where
   pub length : ℕ
   pub slowest : Option ℕ
 
--- "A move has three parts of lengths margin, length − 2 × margin, margin."
 unfoldable pub parts : Cart → Road → List Part
-parts c d =
-    record { length = d .margin; slowest = c .slowest }
-    ∷ record { length = d .length - 2 * d .margin; slowest = c .slowest }
-    ∷ record { length = d .margin; slowest = c .slowest }
-    ∷ []
+parts c d = map (λ (l : ℕ). record { length = l; slowest = c .slowest }) (part-lengths d)
 
 -- n ÷ d "rounded up"
 unfoldable pub div-up : ℕ → ℕ → ℕ
@@ -107,5 +106,5 @@ bounds p =
 
 -- Names every definition of this module, for a proof that computes with them all.
 unfoldable pub open-bounds : Unit {0}
-unfolding no-earlier start-bounds parts div-up least-time most-time road-of-move parts-after route-parts part-bounds travel-bounds first-later between order-bound order-bounds-to order-bounds finish-bounds bounds
+unfolding no-earlier start-bounds part-lengths parts div-up least-time most-time road-of-move parts-after route-parts part-bounds travel-bounds first-later between order-bound order-bounds-to order-bounds finish-bounds bounds
 open-bounds = tt

@@ -1,3 +1,4 @@
 pub mod Row
 pub mod Starred
 pub mod Further
+pub mod Slices

@@ -87,11 +87,11 @@ refused-reply a (chain is) = 0
 unfoldable pub replies : (Plan → Book → Option Timetable) → Row → List ℕ
 replies table-of r =
     elim (judge (r .tables)) [
-      refused why ↦ map (λ (f : Fact). refused-reply (loaded-answer (Loaded.Refused why)) (f .asks)) (r .facts)
-    | accepted p ↦
-        let g : Progress = after p (record { book = first-book p; answer = plain 0 }) (r .reports) in
-        let t : Option Timetable = table-of p (g .book) in
-        map (λ (f : Fact). reply p g t (f .asks)) (r .facts)
+      | refused why ↦ map (λ (f : Fact). refused-reply (loaded-answer (Loaded.Refused why)) (f .asks)) (r .facts)
+      | accepted p ↦
+          let g : Progress = after p (record { book = first-book p; answer = plain 0 }) (r .reports) in
+          let t : Option Timetable = table-of p (g .book) in
+          map (λ (f : Fact). reply p g t (f .asks)) (r .facts)
     ]
 
 -- the answers that follow from the definitions, and those that the document gives

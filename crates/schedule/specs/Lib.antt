@@ -3,3 +3,4 @@ pub mod Added
 pub mod Fits
 pub mod Timetable
 pub mod Chain
+pub mod Open
