@@ -5,20 +5,17 @@ use mathlib.Core.Path.{_≡_, refl}
 use mathlib.Core.List.{List, [], _∷_, _++_, map}
 use lib.ListN.{replicate}
 use Rattle.csv.specs.Text.{bytes}
-use Rattle.floor.specs.Refusal.{Judged, refused, accepted, reason-number, table-number}
-use Rattle.floor.specs.Plan.{Plan}
+use Rattle.floor.specs.Plan.{Road}
+use Rattle.floor.specs.Roads.{road}
+use Rattle.floor.specs.Paths.{path}
 use Rattle.floor.specs.Tables.{Tables, read-tables}
-use Rattle.floor.specs.Examples.{lines, tables, the-pair, on-AB, A-to-B, margin-of, ring-of-three}
+use Rattle.floor.specs.Examples.{lines, tables, the-pair, on-AB, A-to-B, margin-of, ring-of-three, verdict}
 use Rattle.floor.specs.Open.{open-floor}
 
 -- tables, and the refusal, table and record that they meet (0, 0, 0: accepted)
 record Row : Type 0 where
   given : Tables
   meets : List ℕ
-
-met : Judged Plan → List ℕ
-met (refused r) = reason-number (r .reason) ∷ table-number (r .table) ∷ r .row ∷ []
-met (accepted p) = 0 ∷ 0 ∷ 0 ∷ []
 
 AB : String
 AB = "0,1,1000000,250000"
@@ -146,6 +143,17 @@ all-rows : List Row
 unfolding accepted-rows road-rows cart-rows path-rows collision-rows
 all-rows = accepted-rows ++ (road-rows ++ (cart-rows ++ (path-rows ++ collision-rows)))
 
-refusals-follow : map (λ (r : Row). met (read-tables (r .given))) all-rows ≡ map (λ (r : Row). r .meets) all-rows
-unfolding open-floor met AB roads carts paths long collision all-rows
+refusals-follow : map (λ (r : Row). verdict (read-tables (r .given))) all-rows ≡ map (λ (r : Row). r .meets) all-rows
+unfolding open-floor AB roads carts paths long collision all-rows
 refusals-follow = refl
+
+-- "1,024 roads", "8,192 path cells": a record after as many as there may be, and after one less
+road-before : Road
+road-before = record { from = 7; to = 8; length = 9; margin = 1 }
+
+limits-follow : verdict (road (replicate 1023 road-before) (bytes "0,1,9,1")) ∷ verdict (road (replicate 1024 road-before) (bytes "0,1,9,1"))
+    ∷ verdict (path (replicate 8191 (0 ∷ [])) (bytes "0")) ∷ verdict (path (replicate 8192 (0 ∷ [])) (bytes "0"))
+    ∷ []
+    ≡ (0 ∷ 0 ∷ 0 ∷ []) ∷ (4 ∷ 1 ∷ 1025 ∷ []) ∷ (0 ∷ 0 ∷ 0 ∷ []) ∷ (4 ∷ 3 ∷ 8193 ∷ []) ∷ []
+unfolding open-floor road-before
+limits-follow = refl

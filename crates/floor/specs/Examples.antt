@@ -4,6 +4,7 @@ use Prim.Native.Nat.{ℕ}
 use Prim.Native.String.{String}
 use mathlib.Core.List.{List, [], _∷_, _++_}
 use Rattle.csv.specs.Text.{bytes}
+use Rattle.floor.specs.Refusal.{Judged, refused, accepted, reason-number, table-number}
 use Rattle.floor.specs.Tables.{Tables}
 
 -- lines, each ended by CR LF
@@ -45,7 +46,12 @@ ring-of-three =
     ("250000," ∷ "250000," ∷ "250000," ∷ [])
     ("0,1" ∷ "1,2" ∷ "2,0" ∷ [])
 
+-- the refusal, the table and the record of a judgement; 0, 0, 0 where it accepts
+unfoldable pub verdict : {A : Type 0} → Judged A → List ℕ
+verdict (refused r) = reason-number (r .reason) ∷ table-number (r .table) ∷ r .row ∷ []
+verdict (accepted a) = 0 ∷ 0 ∷ 0 ∷ []
+
 -- Names every definition of this module, for a proof that computes with them all.
 unfoldable pub open-examples : Unit {0}
-unfolding lines tables the-pair on-AB A-to-B margin-of ring-of-three
+unfolding lines tables the-pair on-AB A-to-B margin-of ring-of-three verdict
 open-examples = tt

@@ -77,7 +77,7 @@ earliest f s (suc n) = elim (f s) [ none ↦ earliest f (suc s) n | some i ↦ s
 unfoldable pub at-step : ℕ → List ℕ → ℕ
 at-step s p = getD p s 0
 
--- "two carts in one cell at one step"
+-- "two carts in one cell at one step": the first record in a cell that one before it is in
 unfoldable pub same-cell : List (List ℕ) → ℕ → Option ℕ
 same-cell ps s = first-collision eqb [] (map (at-step s) ps)
 
@@ -90,6 +90,7 @@ pub record Move : Type 0 where
 unfoldable pub exchanged : Move → Move → Bool
 exchanged x y = eqb (x .before) (y .after) && eqb (x .after) (y .before)
 
+-- the first record that exchanges cells with one before it, from step s to the next
 unfoldable pub exchange : List (List ℕ) → ℕ → Option ℕ
 exchange ps s = first-collision exchanged [] (map (λ (p : List ℕ). record { before = at-step s p; after = at-step (suc s) p }) ps)
 
@@ -98,10 +99,11 @@ unfoldable pub steps : List (List ℕ) → ℕ
 steps [] = 0
 steps (p ∷ ps) = length p
 
--- the first 8, and the first 9 (from each step but the last to the next)
+-- "8 … by earliest step", at the steps 0..T
 unfoldable pub first-same-cell : List (List ℕ) → Option ℕ
 first-same-cell ps = earliest (same-cell ps) 0 (steps ps)
 
+-- "then 9" likewise, from each step but the last to the next
 unfoldable pub first-exchange : List (List ℕ) → Option ℕ
 first-exchange ps = earliest (exchange ps) 0 (steps ps - 1)
 

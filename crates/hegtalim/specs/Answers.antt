@@ -16,11 +16,13 @@ pub record Answer : Type 0 where
 unfoldable pub plain : ℕ → Answer
 plain n = record { refusal = n; table = 0; value = 0 }
 
+-- a load's
 unfoldable pub loaded-answer : Loaded → Answer
 loaded-answer Loaded.Held = plain 0
 loaded-answer Loaded.TooShort = plain 14
 loaded-answer (Loaded.Refused r) = record { refusal = reason-number (r .reason); table = table-number (r .table); value = r .row }
 
+-- a report's
 unfoldable pub reported-answer : Reported → Answer
 reported-answer Reported.Taken = plain 0
 reported-answer Reported.TooShort = plain 14
@@ -28,6 +30,7 @@ reported-answer Reported.NoPlan = plain 10  -- "no plan held"
 reported-answer Reported.NoPoint = plain 11  -- "no such cart, or its last event has been passed"
 reported-answer Reported.BadTime = plain 12  -- "a time below the clock or over 10^12"
 
+-- a timetable's
 unfoldable pub timed-answer : Timed → Answer
 timed-answer (Timed.Times k) = record { refusal = 0; table = 0; value = k }
 timed-answer Timed.TooShort = plain 14

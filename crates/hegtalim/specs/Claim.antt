@@ -35,6 +35,7 @@ pub data Call : Type 0 where
   reporting : Report → Call
   timing : Lent → Call
 
+-- what a call answers
 pub data Reply : Type 0 where
   reported : Reported → Reply
   timed : Timed → Reply
@@ -57,6 +58,7 @@ unfoldable pub book-after-call : Plan → Book → Call → Book
 book-after-call p b (reporting r) = book-after p b r
 book-after-call p b (timing l) = b
 
+-- the book after a list of calls
 unfoldable pub book-after-calls : Plan → Book → List Call → Book
 book-after-calls p b [] = b
 book-after-calls p b (c ∷ cs) = book-after-calls p (book-after-call p b c) cs
@@ -68,6 +70,7 @@ Right p b (reporting r) (timed a) = ⊥
 Right p b (timing l) (reported a) = ⊥
 Right p b (timing l) (timed a) = (a ≢ Timed.NoPlan) × ((a ≡ Timed.TooShort) ↔ (¬ T (long-enough l)))
 
+-- each call of the list, by the book as the calls before it left it
 abbrev pub AllRight : Plan → Book → List Call → List Reply → Type 0
 AllRight p b [] [] = Unit {0}
 AllRight p b [] (a ∷ as′) = ⊥
@@ -85,6 +88,7 @@ pub record Earliest (p : Plan) (b : Book) (t : Times) (passes : ℕ) : Type 0 wh
   pub fits : Fits p b t
   pub earliest : (u : Times) → Fits p b u → (e : ℕ) → e < event-count p → t e ≤ℤ u e
   pub counted : PassNumber (arcs p b) (event-count p) passes
+  pub below : passes < event-count p  -- "It is below the number of events."
 
 -- "Otherwise a closed chain of bounds, those of the reports included, with a sum below zero is handed over."
 pub record Impossible (p : Plan) (b : Book) (l : Lent) (n : ℕ) : Type 0 where
@@ -95,7 +99,7 @@ pub record Impossible (p : Plan) (b : Book) (l : Lent) (n : ℕ) : Type 0 where
   pub bounds-handed-over : take (2 * n) (l .chain-bounds) ≡ words 2 (map (λ (i : Item). i .number) items)
   pub directions-handed-over : take n (l .chain-directions) ≡ map (λ (i : Item). direction-number (i .direction)) items
 
--- "Times are returned exactly when some fit."
+-- "Times are returned exactly when some fit.": those returned do, and where a chain is handed over none does
 abbrev pub Truthful : Plan → Book → Timed → Lent → Type 0
 Truthful p b (Timed.Times k) l = Earliest p b (times-in (l .times)) k
 Truthful p b Timed.TooShort l = ⊥
@@ -134,8 +138,8 @@ pub data Left : List ℕ → Type 0 where
   by-report : (s : List ℕ) (r : Report) → Left s → report s r .answer ≡ Reported.Taken → Left (report s r .plan)
 
 -- "10: no plan held: the plan slices hold bytes that no accepted load, with accepted reports since, leaves."
-abbrev pub Ten : Type 0
-Ten = (s : List ℕ) → ((h : Held) × (held s ≡ some h)) ↔ Left s
+abbrev pub Refusal-10 : Type 0
+Refusal-10 = (s : List ℕ) → ((h : Held) × (held s ≡ some h)) ↔ Left s
 
 -- Names every definition of this module, for a proof that computes with them all.
 unfoldable pub open-claim : Unit {0}

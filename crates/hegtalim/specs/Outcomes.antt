@@ -42,6 +42,7 @@ load ts plan =
 
 -- ---- report
 
+-- an answer, and what the plan slice then holds
 pub record Reporting : Type 0 where
   pub answer : Reported
   pub plan : List ℕ
@@ -81,6 +82,7 @@ long-enough l =
     leb times-need (length (l .times)) && leb chain-bounds-need (length (l .chain-bounds))
     && leb chain-directions-need (length (l .chain-directions))
 
+-- and so does the plan slice
 unfoldable pub meets-needs : List ℕ → Lent → Bool
 meets-needs s l = leb plan-need (length s) && long-enough l
 

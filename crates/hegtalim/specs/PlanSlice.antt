@@ -1,6 +1,6 @@
 -- The plan slice: the tables as handed in, and the log of accepted reports (docs/DECISIONS.md, "The plan slice").
 -- Assumes nothing.
-use Prim.Native.Nat.{ℕ, suc, _+_, _-_}
+use Prim.Native.Nat.{ℕ, _+_, _*_, _-_}
 use mathlib.Core.Bool.{Bool, true, false}
 use mathlib.Core.List.{List, [], _∷_, _++_, map}
 use mathlib.Core.Option.{Option, none, some}
@@ -14,16 +14,19 @@ use Rattle.floor.specs.Tables.{Tables}
 use Rattle.network.specs.Judge.{judge}
 use Rattle.schedule.specs.Book.{Report, Book, first-book, acceptable, pass-next}
 
--- "docs/ lists each need": a plan slice's, and those of the times slice (8 bytes an event) and the chain slices (2 bytes, and 1, an item)
+-- "docs/ lists each need": a plan slice's is 233,472 places, three tables, the carts of the log and its times
 abbrev pub plan-need : ℕ
-plan-need = 233_472
+plan-need = 3 * 65_536 + 4096 + 8 * 4096
 
+-- a times slice's is 8 an event
 abbrev pub times-need : ℕ
-times-need = 32_768
+times-need = 8 * 4096
 
+-- "chain slices: the event limit": 2 an item for the bounds' numbers
 abbrev pub chain-bounds-need : ℕ
-chain-bounds-need = 8192
+chain-bounds-need = 2 * 4096
 
+-- and 1 an item for the directions
 abbrev pub chain-directions-need : ℕ
 chain-directions-need = 4096
 
@@ -81,6 +84,7 @@ pub record Held : Type 0 where
 unfoldable pub nothing-else : List ℕ → Tables → List Report → Bool
 nothing-else s ts log = same (plan-slice (length s) ts log) s
 
+-- what the slice s holds, if the tables and the log in it are these and the tables are judged so
 unfoldable pub held-by : List ℕ → Tables → List Report → Judged Plan → Option Held
 held-by s ts log (refused r) = none
 held-by s ts log (accepted p) =
@@ -90,7 +94,7 @@ held-by s ts log (accepted p) =
     ]
 
 -- the plan that a slice holds, if it holds what an accepted load, with accepted reports since, leaves: the tables in it are accepted, so is each
--- report of the log in its turn, and there is nothing else (`Claim.Ten` states it)
+-- report of the log in its turn, and there is nothing else (`Claim.Refusal-10` states it)
 unfoldable pub held : List ℕ → Option Held
 held s =
     let ts : Tables = tables-in s in

@@ -8,7 +8,7 @@ use Rattle.floor.specs.Refusal.{Judged, refused, accepted}
 use Rattle.floor.specs.Plan.{Plan}
 use Rattle.floor.specs.Tables.{Tables}
 use Rattle.floor.specs.Examples.{tables, the-pair, on-AB, A-to-B}
-use Rattle.network.specs.Events.{approach, entry, leave, Event, start, finish, passing, events, runs-of}
+use Rattle.network.specs.Events.{approach, entry, leave, Event, start, finish, passing, events, routes-of}
 use Rattle.network.specs.Bounds.{Bound, bounds, order-bounds}
 use Rattle.network.specs.Judge.{judge}
 use Rattle.network.specs.Open.{open-network}
@@ -78,7 +78,7 @@ crossing =
 then : ℕ → ℕ → Bound
 then u v = bound u v 0 none
 
-orders-follow : map (λ (ts : Tables). order-bounds (runs-of (plan-of ts))) (the-pair "250000," ∷ twice ∷ crossing ∷ [])
+orders-follow : map (λ (ts : Tables). order-bounds (routes-of (plan-of ts))) (the-pair "250000," ∷ twice ∷ crossing ∷ [])
     ≡ (then 8 22 ∷ then 11 25 ∷ then 15 3 ∷ then 18 6 ∷ [])
     ∷ (then 2 7 ∷ [])
     ∷ (then 5 10 ∷ then 5 17 ∷ then 12 17 ∷ [])

@@ -20,10 +20,10 @@ visits-after c t (d ∷ ds) =
     let rest = visits-after d (suc t) ds in
     cond (eqb c d) rest (record { step = t; cell = d } ∷ rest)
 
--- "the route": the visits of a path, "step 0" among them
-unfoldable pub route : List ℕ → List Visit
-route [] = []
-route (c ∷ cs) = record { step = 0; cell = c } ∷ visits-after c 1 cs
+-- "the route": the visits of a path, that at "step 0" among them
+unfoldable pub visits-of : List ℕ → List Visit
+visits-of [] = []
+visits-of (c ∷ cs) = record { step = 0; cell = c } ∷ visits-after c 1 cs
 
 -- the points of a visit: its "approach point", its "entry event" and its "leave point"
 pub data Kind : Type 0 where
@@ -35,6 +35,7 @@ pub record Point : Type 0 where
   pub cell : ℕ
   pub step : ℕ
 
+-- the point of this kind of a visit
 unfoldable pub point : Kind → Visit → Point
 point k x = record { kind = k; cell = x .cell; step = x .step }
 
@@ -48,26 +49,27 @@ unfoldable pub points : List Visit → List Point
 points [] = []
 points (x ∷ xs) = point entry x ∷ points-after x xs
 
--- a cart under way: its number ("Carts count from 1 in table order"), its speeds, its route, and the number of its first event
-pub record Run : Type 0 where
+-- a cart's route: the cart's number ("Carts count from 1 in table order"), its speeds, its visits, and the number of its first event
+pub record Route : Type 0 where
   pub number : ℕ
   pub cart : Cart
   pub visits : List Visit
   pub first : ℕ
 
--- "cart by cart, the route": the runs of carts from number j on, whose events are numbered from e on
-unfoldable pub runs : ℕ → ℕ → List Cart → List (List ℕ) → List Run
-runs j e [] ps = []
-runs j e (c ∷ cs) [] = []
-runs j e (c ∷ cs) (p ∷ ps) =
-    record { number = j; cart = c; visits = route p; first = e } ∷ runs (suc j) (e + length (points (route p))) cs ps
+-- "cart by cart, the route": the routes of carts from number j on, whose events are numbered from e on
+unfoldable pub routes : ℕ → ℕ → List Cart → List (List ℕ) → List Route
+routes j e [] ps = []
+routes j e (c ∷ cs) [] = []
+routes j e (c ∷ cs) (p ∷ ps) =
+    record { number = j; cart = c; visits = visits-of p; first = e } ∷ routes (suc j) (e + length (points (visits-of p))) cs ps
 
 -- "Event 0 is the start. Then, cart by cart"
-unfoldable pub runs-of : Plan → List Run
-runs-of p = runs 1 1 (p .carts) (p .paths)
+unfoldable pub routes-of : Plan → List Route
+routes-of p = routes 1 1 (p .carts) (p .paths)
 
-unfoldable pub run-points : Run → List Point
-run-points r = points (r .visits)
+-- its points
+unfoldable pub route-points : Route → List Point
+route-points r = points (r .visits)
 
 -- "A point is any event but start and finish."
 pub data Event : Type 0 where
@@ -76,11 +78,13 @@ pub data Event : Type 0 where
 
 -- "Event 0 is the start. Then, cart by cart, the route …. The finish is the last event.": an event's number is its place here
 unfoldable pub events : Plan → List Event
-events p = start ∷ (flatMap (λ (r : Run). map (passing (r .number)) (run-points r)) (runs-of p) ++ (finish ∷ []))
+events p = start ∷ (flatMap (λ (r : Route). map (passing (r .number)) (route-points r)) (routes-of p) ++ (finish ∷ []))
 
+-- the number of events
 unfoldable pub event-count : Plan → ℕ
 event-count p = length (events p)
 
+-- the finish's number: it "is the last event"
 unfoldable pub finish-event : Plan → ℕ
 finish-event p = event-count p - 1
 
@@ -90,13 +94,14 @@ places e [] = []
 places e (x ∷ xs) = e ∷ places (suc e) xs
 
 -- the numbers of a cart's points
-unfoldable pub run-events : Run → List ℕ
-run-events r = places (r .first) (run-points r)
+unfoldable pub route-events : Route → List ℕ
+route-events r = places (r .first) (route-points r)
 
--- its last entry
-unfoldable pub last-event : Run → ℕ
-last-event r = r .first + length (run-points r) - 1
+-- the number of its last point, which is an entry
+unfoldable pub last-event : Route → ℕ
+last-event r = r .first + length (route-points r) - 1
 
+-- two kinds are the same
 unfoldable pub same-kind : Kind → Kind → Bool
 same-kind approach approach = true
 same-kind approach entry = false
@@ -114,10 +119,10 @@ find-point k t e [] = none
 find-point k t e (p ∷ ps) = cond (same-kind k (p .kind) && eqb t (p .step)) (some e) (find-point k t (suc e) ps)
 
 -- a visit's entry event, its leave point (none for the last visit) and its approach point (none for the first)
-unfoldable pub event-of : Kind → Run → Visit → Option ℕ
-event-of k r x = find-point k (x .step) (r .first) (run-points r)
+unfoldable pub event-of : Kind → Route → Visit → Option ℕ
+event-of k r x = find-point k (x .step) (r .first) (route-points r)
 
 -- Names every definition of this module, for a proof that computes with them all.
 unfoldable pub open-events : Unit {0}
-unfolding visits-after route point points-after points runs runs-of run-points flatMap events event-count finish-event places run-events last-event same-kind find-point event-of
+unfolding visits-after visits-of point points-after points routes routes-of route-points flatMap events event-count finish-event places route-events last-event same-kind find-point event-of
 open-events = tt

@@ -12,14 +12,17 @@ use Rattle.network.specs.Events.{event-count}
 use Rattle.network.specs.Bounds.{bounds}
 
 -- "Last, 4 for events, then bounds (3, 0)": "4,096 events, 8,192 bounds"
-unfoldable pub judge : Tables → Judged Plan
-judge ts = do
-  p ← read-tables ts
+unfoldable pub within-limits : Plan → Judged Plan
+within-limits p = do
   need (leb (event-count p) 4096) Limit Paths 0
   need (leb (length (bounds p)) 8192) Limit Paths 0
   accepted p
 
+-- the plan of three tables, or why they are turned down
+unfoldable pub judge : Tables → Judged Plan
+judge ts = read-tables ts >>= within-limits
+
 -- Names every definition of this module, for a proof that computes with them all.
 unfoldable pub open-judge : Unit {0}
-unfolding judge
+unfolding within-limits judge
 open-judge = tt

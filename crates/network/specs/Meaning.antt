@@ -10,7 +10,7 @@ use lib.Signed.{_≤ℤ_}
 use Rattle.floor.specs.Refusal.{accepted}
 use Rattle.floor.specs.Plan.{Plan}
 use Rattle.floor.specs.Tables.{Tables}
-use Rattle.network.specs.Events.{Visit, approach, leave, Run, runs-of, event-of, finish-event}
+use Rattle.network.specs.Events.{Visit, approach, leave, Route, routes-of, event-of, finish-event}
 use Rattle.network.specs.Bounds.{Bound, start-bounds, travel-bounds, finish-bounds, bounds}
 use Rattle.network.specs.Judge.{judge}
 
@@ -28,7 +28,7 @@ abbrev pub MeetsAll : Times → List Bound → Type 0
 MeetsAll t bs = (b : Bound) → List·Memᴰ b bs → Meets t b
 
 -- "keep their order when the leave point of the earlier is no later than the approach point of the later": of j's visit x and k's later visit y
-pub record InOrder (t : Times) (j : Run) (x : Visit) (k : Run) (y : Visit) : Type 0 where
+pub record InOrder (t : Times) (j : Route) (x : Visit) (k : Route) (y : Visit) : Type 0 where
   pub behind : ℕ
   pub before : ℕ
   pub leaves : event-of leave j x ≡ some behind
@@ -38,7 +38,7 @@ pub record InOrder (t : Times) (j : Run) (x : Visit) (k : Run) (y : Visit) : Typ
 -- "Two visits to a cell by different carts, entered at different steps": all of them keep their order
 abbrev pub KeepsOrder : Plan → Times → Type 0
 KeepsOrder p t =
-    (j k : Run) → List·Memᴰ j (runs-of p) → List·Memᴰ k (runs-of p) → j .number ≢ k .number
+    (j k : Route) → List·Memᴰ j (routes-of p) → List·Memᴰ k (routes-of p) → j .number ≢ k .number
     → (x y : Visit) → List·Memᴰ x (j .visits) → List·Memᴰ y (k .visits) → x .cell ≡ y .cell → x .step < y .step
     → InOrder t j x k y
 
@@ -48,7 +48,7 @@ Demand-2 =
     (ts : Tables) (p : Plan) → judge ts ≡ accepted p
     → (t : Times)
     → MeetsAll t (bounds p)
-    ↔ (MeetsAll t (start-bounds (runs-of p))
-    × MeetsAll t (travel-bounds (p .roads) (runs-of p))
-    × MeetsAll t (finish-bounds (finish-event p) (runs-of p))
+    ↔ (MeetsAll t (start-bounds (routes-of p))
+    × MeetsAll t (travel-bounds (p .roads) (routes-of p))
+    × MeetsAll t (finish-bounds (finish-event p) (routes-of p))
     × KeepsOrder p t)

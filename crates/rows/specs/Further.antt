@@ -5,6 +5,7 @@ use mathlib.Core.List.{List, [], _∷_, _++_}
 use Rattle.floor.specs.Examples.{tables, A-to-B, margin-of, ring-of-three}
 use Rattle.rows.specs.Row.{Question, load, table-refused, record-refused, events, bounded, last-report, timed, passes, time-of, chain, Fact, Row, _is_, times-from}
 
+-- the rows not marked
 unfoldable pub further : List Row
 further =
     -- "Margin 500,000: 2; 499,999: accepted."

@@ -30,6 +30,7 @@ pub record Fact : Type 0 where
   pub asks : Question
   pub says : ℕ
 
+-- tables, the reports made on their plan, and what is said of it
 pub record Row : Type 0 where
   pub tables : Tables
   pub reports : List Report
@@ -40,19 +41,23 @@ pub record Progress : Type 0 where
   pub book : Book
   pub answer : Answer
 
+-- the progress after some reports more
 unfoldable pub after : Plan → Progress → List Report → Progress
 after p g [] = g
 after p g (r ∷ rs) =
     after p (record { book = book-after p (g .book) r; answer = reported-answer (book-answer p (g .book) r) }) rs
 
+-- the refusal of a timetable
 unfoldable pub is-timed : Option Timetable → ℕ
 is-timed none = 13
 is-timed (some t) = 0
 
+-- its passes
 unfoldable pub passes-of : Option Timetable → ℕ
 passes-of none = 0
 passes-of (some t) = t .passes
 
+-- its time for event e
 unfoldable pub time-at : ℕ → Option Timetable → ℕ
 time-at e none = 0
 time-at e (some t) = getD (t .times) e 0
@@ -94,10 +99,11 @@ replies table-of r =
           map (λ (f : Fact). reply p g t (f .asks)) (r .facts)
     ]
 
--- the answers that follow from the definitions, and those that the document gives
+-- the answers that follow from the definitions
 unfoldable pub follows : Row → List ℕ
 follows = replies timetable
 
+-- the answers that the document gives
 unfoldable pub stated : Row → List ℕ
 stated r = map (λ (f : Fact). f .says) (r .facts)
 

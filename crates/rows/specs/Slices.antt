@@ -15,14 +15,16 @@ pub record Kept : Type 0 where
   pub log : List Report
   pub book : Book
 
+-- of what a slice holds
 unfoldable pub kept : Option Held → Option Kept
 kept none = none
 kept (some h) = some (record { log = h .log; book = h .book })
 
--- one cart, path A B, reported at 500 and at 70,000
+-- two reports of cart 1
 unfoldable pub two-reports : List Report
 two-reports = (1 at 500) ∷ (1 at 70_000) ∷ []
 
+-- the plan slice of one cart, path A B, with this log
 unfoldable pub slice : List Report → List ℕ
 slice log = plan-slice plan-need (A-to-B "250000,") log
 

@@ -11,11 +11,12 @@ infix 20 _at_
 abbrev pub _at_ : ℕ → ℕ → Report
 c at t = record { cart = c; time = t }
 
--- items that go onward, and items that go back
+-- items that go onward, by their bounds' numbers
 unfoldable pub onwards : List ℕ → List Item
 onwards [] = []
 onwards (n ∷ ns) = record { number = n; direction = onward } ∷ onwards ns
 
+-- items that go back
 unfoldable pub backwards : List ℕ → List Item
 backwards [] = []
 backwards (n ∷ ns) = record { number = n; direction = back } ∷ backwards ns
@@ -33,6 +34,7 @@ too-even = onwards (1 ∷ []) ++ backwards (1 ∷ [])
 unfoldable pub too-early : List Item
 too-early = onwards (10_002 ∷ []) ++ backwards (1 ∷ 0 ∷ [])
 
+-- the rows marked *
 unfoldable pub starred : List Row
 starred =
     -- "The pair has 28 events and 32 bounds."

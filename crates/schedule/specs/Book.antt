@@ -6,7 +6,7 @@ use mathlib.Core.List.{List, [], _∷_, _++_, map, flatMap, zip}
 use lib.Dec.{leb, ltb}
 use lib.ListN.{length, getD, set, drop}
 use Rattle.floor.specs.Plan.{Plan}
-use Rattle.network.specs.Events.{Run, runs-of, run-points, run-events}
+use Rattle.network.specs.Events.{Route, routes-of, route-points, route-events}
 
 -- "A report names a cart and a time"
 pub record Report : Type 0 where
@@ -20,12 +20,13 @@ pub record Book : Type 0 where
 
 -- "at first the clock is 0 and each cart's first entry is passed, at 0"
 unfoldable pub first-book : Plan → Book
-first-book p = record { clock = 0; passed = map (λ (r : Run). 0 ∷ []) (runs-of p) }
+first-book p = record { clock = 0; passed = map (λ (r : Route). 0 ∷ []) (routes-of p) }
 
--- how many points a cart has, and the times of those it has passed; "Carts count from 1", so nobody is number 0, and a cart that isn't there has none
+-- how many points a cart has: "Carts count from 1", so nobody is number 0, and one that "isn't there" has none
 unfoldable pub points-of : Plan → ℕ → ℕ
-points-of p c = getD (0 ∷ map (λ (r : Run). length (run-points r)) (runs-of p)) c 0
+points-of p c = getD (0 ∷ map (λ (r : Route). length (route-points r)) (routes-of p)) c 0
 
+-- the times of the points that a cart has passed
 unfoldable pub passed-by : Book → ℕ → List ℕ
 passed-by b c = getD ([] ∷ b .passed) c []
 
@@ -55,25 +56,27 @@ pub record Passed : Type 0 where
   pub event : ℕ
   pub time : ℕ
 
--- a cart's points passed, and those "still to be passed"; ts are the times of those passed
-unfoldable pub run-passed : Run → List ℕ → List Passed
-run-passed r ts = map (λ (x : ℕ × ℕ). record { event = x .0; time = x .1 }) (zip (run-events r) ts)
+-- a cart's points passed, at the times ts
+unfoldable pub route-passed : Route → List ℕ → List Passed
+route-passed r ts = map (λ (x : ℕ × ℕ). record { event = x .0; time = x .1 }) (zip (route-events r) ts)
 
-unfoldable pub run-to-pass : Run → List ℕ → List ℕ
-run-to-pass r ts = drop (length ts) (run-events r)
+-- and its points "still to be passed"
+unfoldable pub route-to-pass : Route → List ℕ → List ℕ
+route-to-pass r ts = drop (length ts) (route-events r)
 
 -- something of each cart and its points passed, cart by cart
-unfoldable pub by-cart : {A : Type 0} → (Run → List ℕ → List A) → Plan → Book → List A
-by-cart {A} f p b = flatMap (λ (x : Run × List ℕ). f (x .0) (x .1)) (zip (runs-of p) (b .passed))
+unfoldable pub by-cart : {A : Type 0} → (Route → List ℕ → List A) → Plan → Book → List A
+by-cart {A} f p b = flatMap (λ (x : Route × List ℕ). f (x .0) (x .1)) (zip (routes-of p) (b .passed))
 
--- the points that the book has as passed, and those "still to be passed"
+-- "the points passed with their times"
 unfoldable pub passed-points : Plan → Book → List Passed
-passed-points = by-cart run-passed
+passed-points = by-cart route-passed
 
+-- "the points still to be passed are the book's"
 unfoldable pub points-to-pass : Plan → Book → List ℕ
-points-to-pass = by-cart run-to-pass
+points-to-pass = by-cart route-to-pass
 
 -- Names every definition of this module, for a proof that computes with them all.
 unfoldable pub open-book : Unit {0}
-unfolding first-book points-of passed-by has-next in-time acceptable pass-next book-after zip flatMap run-passed run-to-pass by-cart passed-points points-to-pass
+unfolding first-book points-of passed-by has-next in-time acceptable pass-next book-after zip flatMap route-passed route-to-pass by-cart passed-points points-to-pass
 open-book = tt

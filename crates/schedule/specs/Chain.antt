@@ -16,6 +16,7 @@ use Rattle.schedule.specs.Added.{Numbered, numbered-bounds}
 pub data Direction : Type 0 where
   onward back : Direction
 
+-- their numbers
 unfoldable pub direction-number : Direction → ℕ
 direction-number onward = 0
 direction-number back = 1
@@ -46,6 +47,7 @@ unfoldable pub leg-of : List Numbered → Item → Option Leg
 leg-of [] i = none
 leg-of (b ∷ bs) i = cond (eqb (b .number) (i .number)) (leg (b .bound) (i .direction)) (leg-of bs i)
 
+-- the legs of a list of items, if each has one
 unfoldable pub legs : List Numbered → List Item → Option (List Leg)
 legs bs [] = some []
 legs bs (i ∷ is) = elim (leg-of bs i) [ none ↦ none | some l ↦ elim (legs bs is) [ none ↦ none | some ls ↦ some (l ∷ ls) ] ]
@@ -55,6 +57,7 @@ unfoldable pub linked : ℕ → ℕ → List Leg → Bool
 linked u e [] = eqb u e
 linked u e (l ∷ ls) = eqb u (l .begins) && linked (l .ends) e ls
 
+-- whether one of them begins at event e
 unfoldable pub begins-at : ℕ → List Leg → Bool
 begins-at e [] = false
 begins-at e (l ∷ ls) = eqb e (l .begins) || begins-at e ls

@@ -21,6 +21,7 @@ unfoldable pub backward : Bound → Option ℕ → List Arc
 backward b none = []
 backward b (some h) = record { from = b .to; to = b .from; adds = negℤ (pos h) } ∷ []
 
+-- a bound followed either way
 unfoldable pub ways : Bound → List Arc
 ways b = forward b ∷ backward b (b .hi)
 
@@ -39,6 +40,7 @@ pub record Timetable : Type 0 where
   pub times : List ℕ
   pub passes : ℕ
 
+-- the times of the sums that have settled
 unfoldable pub timetable-of : Option Settled → Option Timetable
 timetable-of none = none
 timetable-of (some s) = some (record { times = map time (s .sums); passes = s .passes })

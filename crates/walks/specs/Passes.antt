@@ -15,11 +15,13 @@ use Rattle.walks.specs.Walks.{Arc}
 abbrev pub Sums : Type 0
 Sums = List (Option ℤ)
 
+-- the greater of two sums; none is below all
 unfoldable pub greater : Option ℤ → Option ℤ → Option ℤ
 greater none y = y
 greater (some x) none = some x
 greater (some x) (some y) = cond (leZ x y) (some y) (some x)
 
+-- a sum and one arc more
 unfoldable pub plus : Option ℤ → ℤ → Option ℤ
 plus none w = none
 plus (some x) w = some (x +ℤ w)
@@ -28,6 +30,7 @@ plus (some x) w = some (x +ℤ w)
 unfoldable pub raise : Sums → Sums → Arc → Sums
 raise old new a = set new (a .to) (greater (getD new (a .to) none) (plus (getD old (a .from) none) (a .adds)))
 
+-- each arc in its turn
 unfoldable pub raise-all : List Arc → Sums → Sums → Sums
 raise-all [] old new = new
 raise-all (a ∷ as′) old new = raise-all as′ old (raise old new a)
@@ -46,12 +49,14 @@ unfoldable pub sums : List Arc → ℕ → ℕ → Sums
 sums arcs n zero = at-start n
 sums arcs n (suc k) = pass arcs (sums arcs n k)
 
+-- two numbers are the same
 unfoldable pub same-number : ℤ → ℤ → Bool
 same-number (pos a) (pos b) = eqb a b
 same-number (pos a) (negsuc b) = false
 same-number (negsuc a) (pos b) = false
 same-number (negsuc a) (negsuc b) = eqb a b
 
+-- two sums are the same, or there is none in both
 unfoldable pub same-sum : Option ℤ → Option ℤ → Bool
 same-sum none none = true
 same-sum none (some y) = false
@@ -80,6 +85,7 @@ pub record Settled : Type 0 where
   pub passes : ℕ
   pub sums : Sums
 
+-- the sums of the first pass that changes nothing
 unfoldable pub settled : List Arc → ℕ → Option Settled
 settled arcs n =
     elim (pass-number arcs n) [ none ↦ none | some k ↦ some (record { passes = k; sums = sums arcs n k }) ]
