@@ -1,2 +1,4 @@
 pub mod Rows
 pub mod Quick
+pub mod Signed
+pub mod Greatest

@@ -8,7 +8,7 @@ use mathlib.Core.Option.{Option, none, some}
 use lib.Dec.{eqb}
 use lib.ListN.{getD, set, replicate}
 use lib.IntN.{ℤ, pos, negsuc, _+ℤ_}
-use lib.Signed.{leZ}
+use lib.Signed.{ltZ}
 use Rattle.walks.specs.Walks.{Arc}
 
 -- the greatest sum to each event; none where no walk leads there
@@ -19,7 +19,7 @@ Sums = List (Option ℤ)
 unfoldable pub greater : Option ℤ → Option ℤ → Option ℤ
 greater none y = y
 greater (some x) none = some x
-greater (some x) (some y) = cond (leZ x y) (some y) (some x)
+greater (some x) (some y) = cond (ltZ x y) (some y) (some x)
 
 -- a sum and one arc more
 unfoldable pub plus : Option ℤ → ℤ → Option ℤ
