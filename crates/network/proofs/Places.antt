@@ -38,12 +38,16 @@ place-more one rs more before after h r m i d l = ⊎-elim here there (List·Mem
   where
     shown : List Event → Route → Type 0
     shown all x = i < length (route-points x) → getD all (x .first + i) (passing (x .number) d) ≡ passing (x .number) (getD (route-points x) i d)
+
     inner : before ++ (flatMap of-route (one ∷ rs) ++ after) ≡ before ++ (of-route one ++ (flatMap of-route rs ++ after))
     inner = ap (λ (x : List Event). before ++ x) (append-assoc (of-route one) (flatMap of-route rs) after)
+
     shifted : before ++ (flatMap of-route (one ∷ rs) ++ after) ≡ (before ++ of-route one) ++ (flatMap of-route rs ++ after)
     shifted = inner ∙ sym (append-assoc before (of-route one) (flatMap of-route rs ++ after))
+
     longer : length (before ++ of-route one) ≡ one .first + length (route-points one)
     longer = omega (arith, length-append before (of-route one), length-map (route-points one) (passing (one .number)), h)
+
     here : r ≡ one → getD (before ++ (flatMap of-route (one ∷ rs) ++ after)) (r .first + i) (passing (r .number) d) ≡ passing (r .number) (getD (route-points r) i d)
     here q =
         subst (shown (before ++ (flatMap of-route (one ∷ rs) ++ after))) (sym q)
@@ -51,6 +55,7 @@ place-more one rs more before after h r m i d l = ⊎-elim here there (List·Mem
         ∙ past before (of-route one ++ (flatMap of-route rs ++ after)) (one .first) i (passing (one .number) d) h
         ∙ in-route one (flatMap of-route rs ++ after) i d k)
         l
+
     there : List·Memᴰ r rs → getD (before ++ (flatMap of-route (one ∷ rs) ++ after)) (r .first + i) (passing (r .number) d) ≡ passing (r .number) (getD (route-points r) i d)
     there t =
         ap (λ (x : List Event). getD x (r .first + i) (passing (r .number) d)) shifted

@@ -3,6 +3,7 @@
 use Prim.Native.Nat.{ℕ}
 use mathlib.Core.List.{List, [], _∷_, _++_}
 use Rattle.floor.specs.Examples.{tables, A-to-B, margin-of, ring-of-three}
+use Rattle.rows.specs.Starred.{_at_}
 use Rattle.rows.specs.Row.{Question, load, table-refused, record-refused, events, bounded, last-report, timed, passes, time-of, chain, Fact, Row, _is_, times-from}
 
 -- the rows not marked
@@ -19,6 +20,30 @@ further =
     ∷ record { tables = ring-of-three; reports = []; facts = (load is 0) ∷ (events is 14) ∷ (bounded is 18) ∷ (time-of 13 is 4000) ∷ [] }
     -- "Without that report the program prints …"
     ∷ record { tables = A-to-B "250000,"; reports = []; facts = times-from 0 (0 ∷ 0 ∷ 1000 ∷ 3000 ∷ 4000 ∷ 4000 ∷ []) }
+    -- each part of a move is rounded by itself, lo up: 834, 1,667 and 834, where the whole move is 3,334
+    ∷ record { tables = A-to-B "300000,"; reports = []; facts = times-from 0 (0 ∷ 0 ∷ 834 ∷ 2501 ∷ 3335 ∷ 3335 ∷ []) }
+    -- a report of cart 2 is the clock for cart 1, and of no event of cart 1
+    ∷ record {
+      tables = tables ("0,1,1000000,250000" ∷ "2,3,1000000,250000" ∷ []) ("250000," ∷ "250000," ∷ []) ("0,1" ∷ "2,3" ∷ []);
+      reports = (2 at 1500) ∷ [];
+      facts = times-from 0 (0 ∷ 0 ∷ 1500 ∷ 3500 ∷ 4500 ∷ 0 ∷ 1500 ∷ 3500 ∷ 4500 ∷ 4500 ∷ []);
+    }
+    -- of two later entries to a cell the first alone has an order bound
+    ∷ record {
+      tables = tables ("0,1,1000000,250000" ∷ "0,2,1000000,250000" ∷ []) ("250000," ∷ "250000," ∷ []) ("0,1,1,1,1" ∷ "2,0,2,0,2" ∷ []);
+      reports = [];
+      facts = (events is 19) ∷ (bounded is 20) ∷ [];
+    }
+    -- three carts cross a cell: three order bounds, the first to the third cart's among them
+    ∷ record {
+      tables =
+          tables
+          ("0,1,1000000,250000" ∷ "0,2,1000000,250000" ∷ "0,3,1000000,250000" ∷ "0,4,1000000,250000" ∷ "0,5,1000000,250000" ∷ "0,6,1000000,250000" ∷ [])
+          ("62500," ∷ "250000," ∷ "250000," ∷ [])
+          ("1,0,2,2,2" ∷ "3,3,0,4,4" ∷ "5,5,5,0,6" ∷ []);
+      reports = [];
+      facts = (events is 23) ∷ (bounded is 27) ∷ (time-of 5 is 20000) ∷ (time-of 10 is 20000) ∷ (time-of 12 is 22000) ∷ (time-of 17 is 22000) ∷ [];
+    }
     ∷ []
 
 -- Names every definition of this module, for a proof that computes with them all.

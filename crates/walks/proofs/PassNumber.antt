@@ -101,10 +101,9 @@ module _ (arcs : List Arc) (n : ℕ) where
     -- the test passes exactly where the greatest sums agree
     to-agree : (k : ℕ) → T (still k) → Agree arcs n k
     to-agree k t v l w =
-        let e : sums arcs n k ≡ sums arcs n (suc k) = agree-eq (sums arcs n k) (sums arcs n (suc k)) t in
-        (
+        let e : sums arcs n k ≡ sums arcs n (suc k) = agree-eq (sums arcs n k) (sums arcs n (suc k)) t in (
           λ g. sum-is-greatest arcs n p i (suc k) v w (ap (λ (s : Sums). getD s v none) (sym e) ∙ greatest-is-sum arcs n p i k v w g),
-          λ g. sum-is-greatest arcs n p i k v w (ap (λ (s : Sums). getD s v none) e ∙ greatest-is-sum arcs n p i (suc k) v w g)
+          λ g. sum-is-greatest arcs n p i k v w (ap (λ (s : Sums). getD s v none) e ∙ greatest-is-sum arcs n p i (suc k) v w g),
         )
 
     same-at : (k v : ℕ) (x y : Option ℤ) → Agree arcs n k → v < n → getD (sums arcs n k) v none ≡ x → getD (sums arcs n (suc k)) v none ≡ y → x ≡ y
@@ -115,8 +114,8 @@ module _ (arcs : List Arc) (n : ℕ) where
     of-agree : (k : ℕ) → Agree arcs n k → T (still k)
     of-agree k h =
         let e : sums arcs n k ≡ sums arcs n (suc k) =
-          ext-getD none (sums arcs n k) (sums arcs n (suc k)) (sums-length arcs n k ∙ sym (sums-length arcs n (suc k)))
-          (λ v l. same-at k v (getD (sums arcs n k) v none) (getD (sums arcs n (suc k)) v none) h (subst (λ (m : ℕ). v < m) (sums-length arcs n k) l) refl refl)
+        ext-getD none (sums arcs n k) (sums arcs n (suc k)) (sums-length arcs n k ∙ sym (sums-length arcs n (suc k)))
+        (λ v l. same-at k v (getD (sums arcs n k) v none) (getD (sums arcs n (suc k)) v none) h (subst (λ (m : ℕ). v < m) (sums-length arcs n k) l) refl refl)
         in
         subst (λ (s : Sums). T (agree (sums arcs n k) s)) e (agree-refl (sums arcs n k))
 

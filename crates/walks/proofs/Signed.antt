@@ -31,6 +31,7 @@ sub-parts a b = cond-ind (ltb a b) (negsuc (b - suc a)) (pos (a - b)) (λ z. up 
   where
     below : (a b : ℕ) → a < b → zero + b ≡ suc (b - suc a) + a
     below a b h = omega arith
+
     above : (a b : ℕ) → b ≤ a → a - b + b ≡ zero + a
     above a b h = omega arith
 
@@ -135,4 +136,3 @@ lt-or a b false e = inr (ltZ-no (rw e tt))
 
 pub lt-or-le : (a b : ℤ) → (a <ℤ b) ⊎ (b ≤ℤ a)
 lt-or-le a b = lt-or a b (ltZ a b) refl
-
