@@ -5,6 +5,7 @@ use mathlib.Core.Path.{_≡_, refl, ap, sym, _∙_}
 use mathlib.Core.Bool.{Bool, true, false, _&&_, not, cond}
 use mathlib.Core.List.{List, [], _∷_, _++_}
 use lib.Dec.{T, eqb}
+use mir.Facts.{and-yes}
 use Rattle.csv.specs.Records.{push, pieces, unended, records, widen, fields}
 
 -- no CR LF inside
@@ -17,14 +18,6 @@ no-end (b ∷ c ∷ bs) = not (eqb b 13 && eqb c 10) && no-end (c ∷ bs)
 abbrev pub no-comma : List ℕ → Bool
 no-comma [] = true
 no-comma (b ∷ bs) = not (eqb b 44) && no-comma bs
-
-and-left : (a b : Bool) → T (a && b) → T a
-and-left true b t = tt
-and-left false b t = t
-
-and-right : (a b : Bool) → T (a && b) → T b
-and-right true b t = t
-and-right false b t = absurd t
 
 -- a test that fails picks the second
 cond-not : {A : Type 0} (b : Bool) (x y : A) → T (not b) → cond b x y ≡ y
@@ -60,11 +53,11 @@ end-piece (c ∷ p) ps = refl
 push-on : (b : ℕ) (r : List ℕ) (ps : List (List ℕ)) → T (no-end (b ∷ r)) → push b (r ∷ ps) ≡ (b ∷ r) ∷ ps
 unfolding push
 push-on b [] ps t = refl
-push-on b (c ∷ r) ps t = cond-not (eqb b 13 && eqb c 10) _ _ (and-left (not (eqb b 13 && eqb c 10)) (no-end (c ∷ r)) t)
+push-on b (c ∷ r) ps t = cond-not (eqb b 13 && eqb c 10) _ _ (and-yes (not (eqb b 13 && eqb c 10)) (no-end (c ∷ r)) t .0)
 
 no-end-tail : (b : ℕ) (r : List ℕ) → T (no-end (b ∷ r)) → T (no-end r)
 no-end-tail b [] t = tt
-no-end-tail b (c ∷ r) t = and-right (not (eqb b 13 && eqb c 10)) (no-end (c ∷ r)) t
+no-end-tail b (c ∷ r) t = and-yes (not (eqb b 13 && eqb c 10)) (no-end (c ∷ r)) t .1
 
 -- a piece and the rest
 pub pieces-line : (r rest : List ℕ) → T (no-end r) → pieces (r ++ (13 ∷ 10 ∷ rest)) ≡ r ∷ pieces rest
@@ -105,13 +98,13 @@ pub fields-comma : (f rest : List ℕ) → T (no-comma f) → fields (f ++ (44 �
 unfolding fields widen
 fields-comma [] rest t = refl
 fields-comma (b ∷ f) rest t =
-    cond-not (eqb b 44) _ _ (and-left (not (eqb b 44)) (no-comma f) t)
-    ∙ ap (widen b) (fields-comma f rest (and-right (not (eqb b 44)) (no-comma f) t))
+    cond-not (eqb b 44) _ _ (and-yes (not (eqb b 44)) (no-comma f) t .0)
+    ∙ ap (widen b) (fields-comma f rest (and-yes (not (eqb b 44)) (no-comma f) t .1))
 
 -- the last field
 pub fields-last : (f : List ℕ) → T (no-comma f) → fields f ≡ f ∷ []
 unfolding fields widen
 fields-last [] t = refl
 fields-last (b ∷ f) t =
-    cond-not (eqb b 44) _ _ (and-left (not (eqb b 44)) (no-comma f) t)
-    ∙ ap (widen b) (fields-last f (and-right (not (eqb b 44)) (no-comma f) t))
+    cond-not (eqb b 44) _ _ (and-yes (not (eqb b 44)) (no-comma f) t .0)
+    ∙ ap (widen b) (fields-last f (and-yes (not (eqb b 44)) (no-comma f) t .1))

@@ -11,23 +11,12 @@ use lib.Dec.{T, eqb, eqb→eq, eqb-refl}
 use lib.IntN.{ℤ, pos, negsuc}
 use lib.ListN.{length, getD}
 use lib.Seq.{ext-getD}
+use mir.Facts.{and-yes, yes-and}
 use Rattle.walks.specs.Walks.{Arc, Greatest, Agree, PassNumber}
 use Rattle.walks.specs.Passes.{Sums, sums, same-number, same-sum, agree, first-agreeing, pass-number}
 use Rattle.walks.proofs.Greatest.{EndsBelow, sums-length, sum-is-greatest, greatest-is-sum}
 
 -- ---- the test of two lists of sums
-
-and-left : (a b : Bool) → T (a && b) → T a
-and-left true b t = tt
-and-left false b t = t
-
-and-right : (a b : Bool) → T (a && b) → T b
-and-right true b t = t
-and-right false b t = absurd t
-
-and-both : (a b : Bool) → T a → T b → T (a && b)
-and-both true b s t = t
-and-both false b s t = absurd s
 
 same-number-eq : (x y : ℤ) → T (same-number x y) → x ≡ y
 unfolding same-number
@@ -55,12 +44,13 @@ agree-eq [] [] t = refl
 agree-eq [] (y ∷ ys) t = absurd t
 agree-eq (x ∷ xs) [] t = absurd t
 agree-eq (x ∷ xs) (y ∷ ys) t =
-    ap₂ _∷_ (same-sum-eq x y (and-left (same-sum x y) (agree xs ys) t)) (agree-eq xs ys (and-right (same-sum x y) (agree xs ys) t))
+    let both = and-yes (same-sum x y) (agree xs ys) t in
+    ap₂ _∷_ (same-sum-eq x y (both .0)) (agree-eq xs ys (both .1))
 
 agree-refl : (xs : Sums) → T (agree xs xs)
 unfolding agree
 agree-refl [] = tt
-agree-refl (x ∷ xs) = and-both (same-sum x x) (agree xs xs) (same-sum-refl x) (agree-refl xs)
+agree-refl (x ∷ xs) = yes-and (same-sum x x) (agree xs xs) (same-sum-refl x) (agree-refl xs)
 
 -- ---- the first number at which it passes
 
