@@ -1,5 +1,5 @@
 -- Every refusal because of the tables, 1 to 9, with its table and record, and what is accepted beside it. Assumes nothing.
-use Prim.Native.Nat.{ℕ}
+use Prim.Native.Nat.{ℕ, zero, suc}
 use Prim.Native.String.{String}
 use mathlib.Core.Path.{_≡_, refl}
 use mathlib.Core.List.{List, [], _∷_, _++_, map}
@@ -55,6 +55,7 @@ road-rows : List Row
 road-rows =
     -- "for bytes record 0, before that table is read"
     record { given = record { roads = long; carts = long; paths = long }; meets = 4 ∷ 1 ∷ 0 ∷ [] }
+    ∷ record { given = record { roads = replicate 65_536 0; carts = []; paths = [] }; meets = 1 ∷ 1 ∷ 0 ∷ [] }
     -- "first line (record 0)"
     ∷ record { given = record { roads = []; carts = long; paths = [] }; meets = 1 ∷ 1 ∷ 0 ∷ [] }
     ∷ record { given = record { roads = lines ("from,to,length" ∷ []); carts = []; paths = [] }; meets = 1 ∷ 1 ∷ 0 ∷ [] }
@@ -100,6 +101,12 @@ cart-rows =
     ∷ record { given = record { roads = lines ("from,to,length,margin" ∷ []); carts = lines ("fastest,slowest" ∷ []); paths = long }; meets = 5 ∷ 2 ∷ 0 ∷ [] }
     ∷ []
 
+-- a record of n fields
+zeros : ℕ → List ℕ
+zeros zero = []
+zeros (suc zero) = 48 ∷ []
+zeros (suc (suc n)) = 48 ∷ 44 ∷ zeros (suc n)
+
 path-rows : List Row
 path-rows =
     record { given = record { roads = lines ("from,to,length,margin" ∷ []); carts = lines ("fastest,slowest" ∷ "1000," ∷ []); paths = long }; meets = 4 ∷ 3 ∷ 0 ∷ [] }
@@ -107,7 +114,7 @@ path-rows =
     ∷ record { given = paths ("0,0" ∷ "1" ∷ []); meets = 1 ∷ 3 ∷ 2 ∷ [] }
     ∷ record { given = paths ("0,0" ∷ "1,65535" ∷ []); meets = 2 ∷ 3 ∷ 2 ∷ [] }
     -- "T 1,023": 1,025 fields
-    ∷ record { given = record { roads = lines ("from,to,length,margin" ∷ []); carts = lines ("fastest,slowest" ∷ "1000," ∷ []); paths = 48 ∷ cells 1024 }; meets = 4 ∷ 3 ∷ 1 ∷ [] }
+    ∷ record { given = record { roads = lines ("from,to,length,margin" ∷ []); carts = lines ("fastest,slowest" ∷ "1000," ∷ []); paths = zeros 1025 }; meets = 4 ∷ 3 ∷ 1 ∷ [] }
     -- "paths and carts differ in count (table 3, record 0)", and more records than carts are read
     ∷ record { given = paths ("0" ∷ []); meets = 6 ∷ 3 ∷ 0 ∷ [] }
     ∷ record { given = paths ("0" ∷ "1" ∷ "2" ∷ []); meets = 6 ∷ 3 ∷ 0 ∷ [] }
@@ -116,10 +123,6 @@ path-rows =
     -- "7 over all paths, the lowest record first", before 8 and 9
     ∷ record { given = on-AB ("1000," ∷ "1000," ∷ []) ("0,0" ∷ "0,2" ∷ []); meets = 7 ∷ 3 ∷ 2 ∷ [] }
     ∷ []
-  where
-    -- n more fields, each a comma and a 0
-    cells : ℕ → List ℕ
-    cells n = elim n [ Prim.Native.Nat.zero ↦ [] | Prim.Native.Nat.suc (k → more) ↦ 44 ∷ 48 ∷ more ]
 
 -- four carts on a square of roads with both diagonals
 collision : List String → Tables
@@ -144,16 +147,17 @@ unfolding accepted-rows road-rows cart-rows path-rows collision-rows
 all-rows = accepted-rows ++ (road-rows ++ (cart-rows ++ (path-rows ++ collision-rows)))
 
 refusals-follow : map (λ (r : Row). verdict (read-tables (r .given))) all-rows ≡ map (λ (r : Row). r .meets) all-rows
-unfolding open-floor AB roads carts paths long collision all-rows
+unfolding open-floor AB roads carts paths long zeros collision all-rows
 refusals-follow = refl
 
--- "1,024 roads", "8,192 path cells": a record after as many as there may be, and after one less
+-- "1,024 roads", "T 1,023, 8,192 path cells": the last record that may be and the one after it
 road-before : Road
 road-before = record { from = 7; to = 8; length = 9; margin = 1 }
 
 limits-follow : verdict (road (replicate 1023 road-before) (bytes "0,1,9,1")) ∷ verdict (road (replicate 1024 road-before) (bytes "0,1,9,1"))
+    ∷ verdict (path [] (zeros 1024)) ∷ verdict (path [] (zeros 1025))
     ∷ verdict (path (replicate 8191 (0 ∷ [])) (bytes "0")) ∷ verdict (path (replicate 8192 (0 ∷ [])) (bytes "0"))
     ∷ []
-    ≡ (0 ∷ 0 ∷ 0 ∷ []) ∷ (4 ∷ 1 ∷ 1025 ∷ []) ∷ (0 ∷ 0 ∷ 0 ∷ []) ∷ (4 ∷ 3 ∷ 8193 ∷ []) ∷ []
-unfolding open-floor road-before
+    ≡ (0 ∷ 0 ∷ 0 ∷ []) ∷ (4 ∷ 1 ∷ 1025 ∷ []) ∷ (0 ∷ 0 ∷ 0 ∷ []) ∷ (4 ∷ 3 ∷ 1 ∷ []) ∷ (0 ∷ 0 ∷ 0 ∷ []) ∷ (4 ∷ 3 ∷ 8193 ∷ []) ∷ []
+unfolding open-floor road-before zeros
 limits-follow = refl

@@ -4,6 +4,7 @@ use Prim.Native.Nat.{ℕ, zero, suc}
 use mathlib.Core.Bool.{Bool, true, false, cond}
 use mathlib.Core.List.{List, [], _∷_, map}
 use mathlib.Core.Option.{Option, none, some}
+use lib.IntN.{natAbs}
 use lib.ListN.{length, getD}
 use Rattle.floor.specs.Refusal.{Judged, refused, accepted}
 use Rattle.floor.specs.Plan.{Plan}
@@ -13,17 +14,19 @@ use Rattle.network.specs.Bounds.{bounds}
 use Rattle.network.specs.Judge.{judge}
 use Rattle.schedule.specs.Book.{Report, Book, first-book, book-after}
 use Rattle.schedule.specs.Timetable.{Timetable, timetable}
-use Rattle.schedule.specs.Chain.{Item, is-chain}
+use Rattle.schedule.specs.Added.{numbered-bounds}
+use Rattle.schedule.specs.Chain.{Item, Leg, legs, cost, is-chain}
 use Rattle.hegtalim.specs.declared.Loaded.{Loaded}
 use Rattle.hegtalim.specs.Answers.{Answer, plain, loaded-answer, reported-answer}
 use Rattle.hegtalim.specs.Outcomes.{book-answer}
 
 -- what may be asked of a plan: the load's refusal (0: accepted), its table and its record; the number of events and of bounds; the refusal of the last
--- report (0: taken); whether no times exist (13, else 0); the passes; the time of an event; whether a list of items is a chain (1) or not (0)
+-- report (0: taken); whether no times exist (13, else 0); the passes; the time of an event; whether a list of items is a chain (1)
+-- or not (0); what items cost, added, without the sign
 pub data Question : Type 0 where
   load table-refused record-refused events bounded last-report timed passes : Question
   time-of : ℕ → Question
-  chain : List Item → Question
+  chain cost-of : List Item → Question
 
 -- a question, and the document's answer
 pub record Fact : Type 0 where
@@ -62,6 +65,11 @@ unfoldable pub time-at : ℕ → Option Timetable → ℕ
 time-at e none = 0
 time-at e (some t) = getD (t .times) e 0
 
+-- what legs cost, without the sign
+unfoldable pub size : Option (List Leg) → ℕ
+size none = 0
+size (some ls) = natAbs (cost ls)
+
 -- what the definitions answer of an accepted plan, with its progress and its timetable
 unfoldable pub reply : Plan → Progress → Option Timetable → Question → ℕ
 reply p g t load = 0
@@ -74,6 +82,7 @@ reply p g t timed = is-timed t
 reply p g t passes = passes-of t
 reply p g t (time-of e) = time-at e t
 reply p g t (chain is) = cond (is-chain p (g .book) is) 1 0
+reply p g t (cost-of is) = size (legs (numbered-bounds p (g .book)) is)
 
 -- and of a refused one: nothing but the refusal can be asked
 unfoldable pub refused-reply : Answer → Question → ℕ
@@ -87,6 +96,7 @@ refused-reply a timed = 0
 refused-reply a passes = 0
 refused-reply a (time-of e) = 0
 refused-reply a (chain is) = 0
+refused-reply a (cost-of is) = 0
 
 -- by the timetable given
 unfoldable pub replies : (Plan → Book → Option Timetable) → Row → List ℕ
@@ -118,5 +128,5 @@ times-from e (t ∷ ts) = (time-of e is t) ∷ times-from (suc e) ts
 
 -- Names every definition of this module, for a proof that computes with them all.
 unfoldable pub open-row : Unit {0}
-unfolding after is-timed passes-of time-at reply refused-reply replies follows stated times-from
+unfolding after is-timed passes-of time-at size reply refused-reply replies follows stated times-from
 open-row = tt

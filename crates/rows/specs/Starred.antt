@@ -5,7 +5,7 @@ use mathlib.Core.List.{List, [], _∷_, _++_}
 use Rattle.floor.specs.Examples.{the-pair, on-AB, A-to-B}
 use Rattle.schedule.specs.Book.{Report}
 use Rattle.schedule.specs.Chain.{Item, onward, back}
-use Rattle.rows.specs.Row.{Question, load, table-refused, record-refused, events, bounded, last-report, timed, passes, time-of, chain, Fact, Row, _is_, times-from}
+use Rattle.rows.specs.Row.{Question, load, table-refused, record-refused, events, bounded, last-report, timed, passes, time-of, chain, cost-of, Fact, Row, _is_, times-from}
 
 infix 20 _at_
 abbrev pub _at_ : ℕ → ℕ → Report
@@ -21,10 +21,13 @@ unfoldable pub backwards : List ℕ → List Item
 backwards [] = []
 backwards (n ∷ ns) = record { number = n; direction = back } ∷ backwards ns
 
--- "(19,999 against 20,000)": cart 1 from the start to the approach to C, at its slowest 19,999; the order bound back; and from cart 2's leave
--- point of C, at its fastest 20,000, back to the start
-unfoldable pub too-slow : List Item
-too-slow = onwards (0 ∷ 2 ∷ 3 ∷ 4 ∷ 5 ∷ 6 ∷ []) ++ backwards (29 ∷ 17 ∷ 16 ∷ 15 ∷ 14 ∷ 1 ∷ [])
+-- cart 1 from the start to the approach to C, at its slowest
+unfoldable pub slowest-to-C : List Item
+slowest-to-C = onwards (0 ∷ 2 ∷ 3 ∷ 4 ∷ 5 ∷ 6 ∷ [])
+
+-- back by the order bound to cart 2's leave point of C, and from there, at its fastest, to the start
+unfoldable pub fastest-from-C : List Item
+fastest-from-C = backwards (29 ∷ 17 ∷ 16 ∷ 15 ∷ 14 ∷ 1 ∷ [])
 
 -- "lo 834 exceeds hi 833"
 unfoldable pub too-even : List Item
@@ -54,9 +57,9 @@ starred =
     -- "Cart 1 slowest 87,489: accepted."
     ∷ record { tables = the-pair "250000,87489"; reports = []; facts = (load is 0) ∷ (timed is 0) ∷ [] }
     -- "87,490: refusal 13 (19,999 against 20,000)."
-    ∷ record { tables = the-pair "250000,87490"; reports = []; facts = (load is 0) ∷ (timed is 13) ∷ (chain too-slow is 1) ∷ [] }
+    ∷ record { tables = the-pair "250000,87490"; reports = []; facts = (load is 0) ∷ (timed is 13) ∷ (chain (slowest-to-C ++ fastest-from-C) is 1) ∷ (cost-of slowest-to-C is 19999) ∷ (cost-of fastest-from-C is 20000) ∷ [] }
     -- "One cart, fastest and slowest 300,000, path A B: 13, as lo 834 exceeds hi 833."
-    ∷ record { tables = A-to-B "300000,300000"; reports = []; facts = (load is 0) ∷ (timed is 13) ∷ (chain too-even is 1) ∷ [] }
+    ∷ record { tables = A-to-B "300000,300000"; reports = []; facts = (load is 0) ∷ (timed is 13) ∷ (chain too-even is 1) ∷ (cost-of (onwards (1 ∷ [])) is 833) ∷ (cost-of (backwards (1 ∷ [])) is 834) ∷ [] }
     -- "One cart, path A: times 0, 0, 0; two passes."
     ∷ record {
       tables = on-AB ("250000," ∷ []) ("0" ∷ []);
@@ -98,5 +101,5 @@ starred =
 
 -- Names every definition of this module, for a proof that computes with them all.
 unfoldable pub open-starred : Unit {0}
-unfolding onwards backwards too-slow too-even too-early starred
+unfolding onwards backwards slowest-to-C fastest-from-C too-even too-early starred
 open-starred = tt
