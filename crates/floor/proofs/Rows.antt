@@ -9,7 +9,7 @@ use Rattle.floor.specs.Plan.{Road}
 use Rattle.floor.specs.Roads.{road}
 use Rattle.floor.specs.Paths.{path}
 use Rattle.floor.specs.Tables.{Tables, read-tables}
-use Rattle.floor.specs.Examples.{lines, tables, the-pair, on-AB, A-to-B, margin-of, ring-of-three, verdict}
+use Rattle.floor.specs.Examples.{lines, tables, the-pair, on-AB, margin-of, ring-of-three, verdict}
 use Rattle.floor.specs.Open.{open-floor}
 
 -- tables, and the refusal, table and record that they meet (0, 0, 0: accepted)

@@ -1,27 +1,25 @@
 -- The answers' numbers, the log replayed, and calls that are turned down before the tables are read. Assumes nothing.
 use Prim.Native.Nat.{ℕ}
 use mathlib.Core.Path.{_≡_, refl}
-use mathlib.Core.Bool.{Bool, true, false}
-use mathlib.Core.List.{List, [], _∷_, _++_, map}
-use mathlib.Core.Option.{Option, none, some}
+use mathlib.Core.List.{[], _∷_, map}
+use mathlib.Core.Option.{none, some}
 use lib.ListN.{length, replicate}
 use Rattle.floor.specs.declared.Reason.the-variants.{Layout, Range, RoadPair, Limit, NoCarts, PathCount, OffRoad, SameCell, Exchange}
 use Rattle.floor.specs.declared.Reason.{Reason}
-use Rattle.floor.specs.declared.Table.the-variants.{Roads, Carts, Paths}
-use Rattle.floor.specs.Refusal.{Judged, refused}
+use Rattle.floor.specs.declared.Table.the-variants.{Carts, Paths}
+use Rattle.floor.specs.Refusal.{refused}
 use Rattle.floor.specs.Plan.{Plan}
 use Rattle.floor.specs.Tables.{Tables}
-use Rattle.schedule.specs.Book.{Report, Book, first-book}
-use Rattle.schedule.specs.Timetable.{Timetable}
-use Rattle.schedule.specs.Chain.{Item, onward, back}
+use Rattle.schedule.specs.Book.{Report, first-book}
+use Rattle.schedule.specs.Chain.{onward, back}
 use Rattle.hegtalim.specs.declared.Loaded.{Loaded}
 use Rattle.hegtalim.specs.declared.Reported.{Reported}
 use Rattle.hegtalim.specs.declared.Timed.{Timed}
 use Rattle.words.specs.Words.{open-words}
 use Rattle.schedule.specs.Open.{open-schedule}
-use Rattle.hegtalim.specs.Answers.{open-answers, Answer, loaded-answer, reported-answer, timed-answer, c-number}
+use Rattle.hegtalim.specs.Answers.{open-answers, loaded-answer, reported-answer, timed-answer, c-number}
 use Rattle.hegtalim.specs.PlanSlice.{plan-slice, replay}
-use Rattle.hegtalim.specs.Outcomes.{open-outcomes, Load, load, load-judged, Reporting, report, report-held, Lent, times-written, chain-written}
+use Rattle.hegtalim.specs.Outcomes.{open-outcomes, load, load-judged, report, report-held, Lent, times-written, chain-written}
 
 -- each reason has the document's number
 reasons-follow : map (λ (why : Reason). loaded-answer (Loaded.Refused (record { reason = why; table = Paths; row = 7 })) .refusal)

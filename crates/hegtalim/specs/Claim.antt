@@ -3,11 +3,10 @@
 use Prim.Native.Nat.{ℕ, _*_, _<_}
 use mathlib.Core.Path.{_≡_}
 use mathlib.Core.Logic.{_↔_, _≢_}
-use mathlib.Core.Bool.{true}
 use mathlib.Core.List.{List, [], _∷_, map}
-use mathlib.Core.Option.{Option, some}
+use mathlib.Core.Option.{some}
 use lib.Dec.{T}
-use lib.IntN.{ℤ, pos}
+use lib.IntN.{pos}
 use lib.Signed.{_≤ℤ_}
 use lib.ListN.{length, take}
 use Rattle.words.specs.Words.{words, word-at}
@@ -26,7 +25,7 @@ use Rattle.hegtalim.specs.declared.Loaded.{Loaded}
 use Rattle.hegtalim.specs.declared.Reported.{Reported}
 use Rattle.hegtalim.specs.declared.Timed.{Timed}
 use Rattle.hegtalim.specs.PlanSlice.{Held, held}
-use Rattle.hegtalim.specs.Outcomes.{Load, load, book-answer, report, Lent, long-enough, Timetabled}
+use Rattle.hegtalim.specs.Outcomes.{load, book-answer, report, Lent, long-enough, Timetabled}
 
 -- ---- the list of calls
 

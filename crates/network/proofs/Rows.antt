@@ -1,14 +1,13 @@
 -- Events and bounds of some plans, whole. Assumes nothing.
 use Prim.Native.Nat.{ℕ}
 use mathlib.Core.Path.{_≡_, refl}
-use mathlib.Core.List.{List, [], _∷_, _++_, map, flatMap}
+use mathlib.Core.List.{[], _∷_, map}
 use mathlib.Core.Option.{Option, none, some}
-use lib.ListN.{length, replicate}
-use Rattle.floor.specs.Refusal.{Judged, refused, accepted}
+use Rattle.floor.specs.Refusal.{refused, accepted}
 use Rattle.floor.specs.Plan.{Plan}
 use Rattle.floor.specs.Tables.{Tables}
 use Rattle.floor.specs.Examples.{tables, the-pair, on-AB, A-to-B}
-use Rattle.network.specs.Events.{approach, entry, leave, Event, start, finish, passing, events, routes-of}
+use Rattle.network.specs.Events.{approach, entry, leave, start, finish, passing, events, routes-of}
 use Rattle.network.specs.Bounds.{Bound, bounds, order-bounds}
 use Rattle.network.specs.Judge.{judge}
 use Rattle.network.specs.Open.{open-network}

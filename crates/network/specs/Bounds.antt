@@ -1,12 +1,12 @@
 -- The bounds of a plan (document 01, "Bounds"; document 004, Algorithm 1, lines 11 to 19, and its speed limits).
 -- Assumes nothing.
-use Prim.Native.Nat.{ℕ, zero, suc, _+_, _*_, _-_, _/_}
-use mathlib.Core.Bool.{Bool, true, false, _&&_, cond}
+use Prim.Native.Nat.{ℕ, suc, _+_, _*_, _-_, _/_}
+use mathlib.Core.Bool.{_&&_, cond}
 use mathlib.Core.List.{List, [], _∷_, _++_, map, flatMap}
 use mathlib.Core.Option.{Option, none, some, Option·getD}
 use lib.Dec.{ltb, eqb}
 use Rattle.floor.specs.Plan.{Road, Cart, Plan, road-between}
-use Rattle.network.specs.Events.{Visit, Kind, approach, leave, Route, routes-of, event-of, last-event, finish-event}
+use Rattle.network.specs.Events.{Visit, approach, leave, Route, routes-of, event-of, last-event, finish-event}
 
 -- "A bound [lo, hi] from event u to event v"; "hi may be none"
 pub record Bound : Type 0 where

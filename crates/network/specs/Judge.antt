@@ -1,6 +1,5 @@
 -- What a load says of three tables, whole (document 01, "Turned down because of the input").
 -- Assumes nothing.
-use Prim.Native.Nat.{ℕ}
 use lib.Dec.{leb}
 use lib.ListN.{length}
 use Rattle.floor.specs.declared.Reason.the-variants.{Limit}

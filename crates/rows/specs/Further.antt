@@ -1,10 +1,9 @@
 -- Rows that document 01 does not mark: its other examples, and what the starred ones do not tell apart.
 -- Assumes nothing.
-use Prim.Native.Nat.{ℕ}
-use mathlib.Core.List.{List, [], _∷_, _++_}
+use mathlib.Core.List.{List, [], _∷_}
 use Rattle.floor.specs.Examples.{tables, A-to-B, margin-of, ring-of-three}
 use Rattle.rows.specs.Starred.{_at_}
-use Rattle.rows.specs.Row.{Question, load, table-refused, record-refused, events, bounded, last-report, timed, passes, time-of, chain, Fact, Row, _is_, times-from}
+use Rattle.rows.specs.Row.{load, table-refused, record-refused, events, bounded, time-of, Row, _is_, times-from}
 
 -- the rows not marked
 unfoldable pub further : List Row

@@ -1,12 +1,12 @@
 -- A row: three tables, the reports made on the plan, and what document 01 says of it, against what the definitions say.
 -- Assumes nothing.
-use Prim.Native.Nat.{ℕ, zero, suc}
-use mathlib.Core.Bool.{Bool, true, false, cond}
+use Prim.Native.Nat.{ℕ, suc}
+use mathlib.Core.Bool.{cond}
 use mathlib.Core.List.{List, [], _∷_, map}
 use mathlib.Core.Option.{Option, none, some}
 use lib.IntN.{natAbs}
 use lib.ListN.{length, getD}
-use Rattle.floor.specs.Refusal.{Judged, refused, accepted}
+use Rattle.floor.specs.Refusal.{refused, accepted}
 use Rattle.floor.specs.Plan.{Plan}
 use Rattle.floor.specs.Tables.{Tables}
 use Rattle.network.specs.Events.{event-count}

@@ -1,13 +1,11 @@
 -- Rows over whole plan slices, at their real size.
 -- Assumes nothing.
 use Prim.Native.Nat.{ℕ}
-use mathlib.Core.List.{List, [], _∷_, _++_}
+use mathlib.Core.List.{List, [], _∷_}
 use mathlib.Core.Option.{Option, none, some}
-use lib.ListN.{replicate}
-use Rattle.floor.specs.Tables.{Tables}
 use Rattle.floor.specs.Examples.{A-to-B}
 use Rattle.schedule.specs.Book.{Report, Book}
-use Rattle.hegtalim.specs.PlanSlice.{plan-need, plan-slice, Held, held}
+use Rattle.hegtalim.specs.PlanSlice.{plan-need, plan-slice, Held}
 use Rattle.rows.specs.Starred.{_at_}
 
 -- the log and the book of a plan held

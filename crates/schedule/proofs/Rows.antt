@@ -1,14 +1,14 @@
 -- Books, added bounds, timetables and chains of small plans. Assumes nothing.
 use Prim.Native.Nat.{ℕ}
 use mathlib.Core.Path.{_≡_, refl}
-use mathlib.Core.Bool.{Bool, true, false}
-use mathlib.Core.List.{List, [], _∷_, _++_, map}
+use mathlib.Core.Bool.{true, false}
+use mathlib.Core.List.{List, [], _∷_, map}
 use mathlib.Core.Option.{Option, none, some}
 use Rattle.floor.specs.Plan.{Road, Plan}
 use Rattle.network.specs.Bounds.{Bound}
-use Rattle.schedule.specs.Book.{Report, Book, first-book, has-next, in-time, book-after, Passed, passed-points, points-to-pass}
+use Rattle.schedule.specs.Book.{Report, Book, first-book, has-next, in-time, book-after, passed-points, points-to-pass}
 use Rattle.schedule.specs.Added.{Numbered, added-bounds, numbered-bounds}
-use Rattle.schedule.specs.Timetable.{Timetable, timetable}
+use Rattle.schedule.specs.Timetable.{timetable}
 use Rattle.schedule.specs.Chain.{Direction, onward, back, Item, is-chain}
 use Rattle.schedule.specs.Open.{open-schedule}
 

@@ -4,7 +4,7 @@ use Prim.Native.Nat.{ℕ, suc, _+_}
 use mathlib.Core.List.{List, [], _∷_, _++_, map, tail}
 use mathlib.Core.Option.{none, some}
 use Rattle.floor.specs.Plan.{Plan}
-use Rattle.network.specs.Events.{Route}
+use Rattle.network.specs.Events.{Route, routes-of}
 use Rattle.network.specs.Bounds.{Bound, bounds}
 use Rattle.schedule.specs.Book.{Book, Passed, route-passed, route-to-pass, by-cart}
 
@@ -22,7 +22,7 @@ route-added clock r ts = map reported-bound (tail (route-passed r ts)) ++ map (c
 
 -- those of all carts
 unfoldable pub added-bounds : Plan → Book → List Bound
-added-bounds p b = by-cart (route-added (b .clock)) p b
+added-bounds p b = by-cart (route-added (b .clock)) (routes-of p) (b .passed)
 
 -- "Following a bound, added ones included": all of them
 unfoldable pub all-bounds : Plan → Book → List Bound

@@ -1,8 +1,8 @@
 -- The marker's book (document 01, "Reports and timetable").
 -- Assumes nothing.
-use Prim.Native.Nat.{ℕ, suc, _-_}
-use mathlib.Core.Bool.{Bool, true, false, _&&_, cond}
-use mathlib.Core.List.{List, [], _∷_, _++_, map, flatMap, zip}
+use Prim.Native.Nat.{ℕ, _-_}
+use mathlib.Core.Bool.{Bool, _&&_, cond}
+use mathlib.Core.List.{List, [], _∷_, _++_, map}
 use lib.Dec.{leb, ltb}
 use lib.ListN.{length, getD, set, drop}
 use Rattle.floor.specs.Plan.{Plan}
@@ -56,27 +56,35 @@ pub record Passed : Type 0 where
   pub event : ℕ
   pub time : ℕ
 
+-- events in their order, passed at the times ts as far as these go
+unfoldable pub passed-at : List ℕ → List ℕ → List Passed
+passed-at [] ts = []
+passed-at (e ∷ es) [] = []
+passed-at (e ∷ es) (t ∷ ts) = record { event = e; time = t } ∷ passed-at es ts
+
 -- a cart's points passed, at the times ts
 unfoldable pub route-passed : Route → List ℕ → List Passed
-route-passed r ts = map (λ (x : ℕ × ℕ). record { event = x .0; time = x .1 }) (zip (route-events r) ts)
+route-passed r ts = passed-at (route-events r) ts
 
 -- and its points "still to be passed"
 unfoldable pub route-to-pass : Route → List ℕ → List ℕ
 route-to-pass r ts = drop (length ts) (route-events r)
 
--- something of each cart and its points passed, cart by cart
-unfoldable pub by-cart : {A : Type 0} → (Route → List ℕ → List A) → Plan → Book → List A
-by-cart {A} f p b = flatMap (λ (x : Route × List ℕ). f (x .0) (x .1)) (zip (routes-of p) (b .passed))
+-- what f gives for each route and the times of its points passed, cart by cart
+unfoldable pub by-cart : {A : Type 0} → (Route → List ℕ → List A) → List Route → List (List ℕ) → List A
+by-cart f [] tss = []
+by-cart f (r ∷ rs) [] = []
+by-cart f (r ∷ rs) (ts ∷ tss) = f r ts ++ by-cart f rs tss
 
 -- "the points passed with their times"
 unfoldable pub passed-points : Plan → Book → List Passed
-passed-points = by-cart route-passed
+passed-points p b = by-cart route-passed (routes-of p) (b .passed)
 
 -- "the points still to be passed are the book's"
 unfoldable pub points-to-pass : Plan → Book → List ℕ
-points-to-pass = by-cart route-to-pass
+points-to-pass p b = by-cart route-to-pass (routes-of p) (b .passed)
 
 -- Names every definition of this module, for a proof that computes with them all.
 unfoldable pub open-book : Unit {0}
-unfolding first-book points-of passed-by has-next in-time acceptable pass-next book-after zip flatMap route-passed route-to-pass by-cart passed-points points-to-pass
+unfolding first-book points-of passed-by has-next in-time acceptable pass-next book-after passed-at route-passed route-to-pass by-cart passed-points points-to-pass
 open-book = tt

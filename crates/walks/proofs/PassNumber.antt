@@ -4,15 +4,15 @@ use native.Mathlib.Nat.{eq-or-lt-of-le}
 use native.Mathlib.Omega.{arith}
 use mathlib.Core.Path.{_≡_, refl, ap, ap₂, sym, _∙_, subst}
 use mathlib.Core.Logic.{⊎-elim}
-use mathlib.Core.Bool.{Bool, true, false, _&&_}
+use mathlib.Core.Bool.{Bool, true, false}
 use mathlib.Core.List.{List, [], _∷_}
 use mathlib.Core.Option.{Option, none, some, Option·none-ne-some, Option·some-injective}
-use lib.Dec.{T, eqb, eqb→eq, eqb-refl}
+use lib.Dec.{T, eqb→eq, eqb-refl}
 use lib.IntN.{ℤ, pos, negsuc}
-use lib.ListN.{length, getD}
+use lib.ListN.{getD}
 use lib.Seq.{ext-getD}
 use mir.Facts.{and-yes, yes-and}
-use Rattle.walks.specs.Walks.{Arc, Greatest, Agree, PassNumber}
+use Rattle.walks.specs.Walks.{Arc, Agree, PassNumber}
 use Rattle.walks.specs.Passes.{Sums, sums, same-number, same-sum, agree, first-agreeing, pass-number}
 use Rattle.walks.proofs.Greatest.{EndsBelow, sums-length, sum-is-greatest, greatest-is-sum}
 

@@ -2,10 +2,10 @@
 use Prim.Native.Nat.{ℕ}
 use mathlib.Core.Path.{_≡_, refl}
 use mathlib.Core.List.{List, [], _∷_}
-use mathlib.Core.Option.{Option, none, some}
+use mathlib.Core.Option.{none, some}
 use lib.IntN.{ℤ, pos, negsuc}
 use Rattle.walks.specs.Walks.{Arc}
-use Rattle.walks.specs.Passes.{open-passes, Sums, sums, pass-number}
+use Rattle.walks.specs.Passes.{open-passes, sums, pass-number}
 
 arc : ℕ → ℕ → ℤ → Arc
 arc u v w = record { from = u; to = v; adds = w }

@@ -1,6 +1,6 @@
 -- Walks from the start (vertex 0) along weighted arcs, their greatest sums, and the number of passes (document 01, "Reports and timetable").
 -- Assumes nothing.
-use Prim.Native.Nat.{ℕ, zero, suc, _≤_, _<_}
+use Prim.Native.Nat.{ℕ, suc, _≤_, _<_}
 use mathlib.Core.Logic.{_↔_}
 use mathlib.Core.List.{List, List·Memᴰ}
 use lib.IntN.{ℤ, pos, _+ℤ_}

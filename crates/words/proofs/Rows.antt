@@ -1,7 +1,6 @@
 -- Some numbers and their bytes. Assumes nothing.
-use Prim.Native.Nat.{ℕ}
 use mathlib.Core.Path.{_≡_, refl}
-use mathlib.Core.List.{List, [], _∷_}
+use mathlib.Core.List.{[], _∷_}
 use Rattle.words.specs.Words.{open-words, little, word, words, word-at, written}
 
 bytes-follow : word 2 10_002 ∷ word 8 1_000_000_000_000 ∷ words 2 (1 ∷ 258 ∷ []) ∷ []
