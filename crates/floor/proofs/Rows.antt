@@ -9,7 +9,7 @@ use Rattle.floor.specs.Plan.{Road}
 use Rattle.floor.specs.Roads.{road}
 use Rattle.floor.specs.Paths.{path}
 use Rattle.floor.specs.Tables.{Tables, read-tables}
-use Rattle.floor.specs.Examples.{lines, tables, the-pair, on-AB, margin-of, ring-of-three, verdict}
+use Rattle.floor.specs.Examples.{lines, tables, the-pair, on-AB, by-road, ring-of-three, verdict}
 use Rattle.floor.specs.Open.{open-floor}
 
 -- tables, and the refusal, table and record that they meet (0, 0, 0: accepted)
@@ -24,7 +24,7 @@ AB = "0,1,1000000,250000"
 roads : List String → Tables
 roads rs = tables rs ("1000," ∷ []) ("0" ∷ [])
 
--- carts, with a path that stays in a cell for each of them
+-- carts, and the path of one that stays in cell 0
 carts : List String → Tables
 carts cs = tables (AB ∷ []) cs ("0" ∷ [])
 
@@ -32,7 +32,7 @@ carts cs = tables (AB ∷ []) cs ("0" ∷ [])
 paths : List String → Tables
 paths ps = tables (AB ∷ "1,2,9,1" ∷ "0,2,9,1" ∷ []) ("1000," ∷ "1000," ∷ []) ps
 
--- n bytes too many to be read, none of which is looked at
+-- one byte too many to be read, and none of them is looked at
 long : List ℕ
 long = replicate 65_537 0
 
@@ -40,7 +40,7 @@ accepted-rows : List Row
 accepted-rows =
     record { given = the-pair "250000,"; meets = 0 ∷ 0 ∷ 0 ∷ [] }
     ∷ record { given = ring-of-three; meets = 0 ∷ 0 ∷ 0 ∷ [] }
-    ∷ record { given = margin-of "0,1,1000000,499999"; meets = 0 ∷ 0 ∷ 0 ∷ [] }
+    ∷ record { given = by-road "0,1,1000000,499999"; meets = 0 ∷ 0 ∷ 0 ∷ [] }
     ∷ record { given = roads []; meets = 0 ∷ 0 ∷ 0 ∷ [] }
     ∷ record { given = roads ("65534,0,3,1" ∷ "0,1,100000000,49999999" ∷ []); meets = 0 ∷ 0 ∷ 0 ∷ [] }
     ∷ record { given = carts ("20000000,1000" ∷ []); meets = 0 ∷ 0 ∷ 0 ∷ [] }
@@ -74,7 +74,7 @@ road-rows =
     ∷ record { given = roads ("0,1,2,1" ∷ []); meets = 2 ∷ 1 ∷ 1 ∷ [] }
     ∷ record { given = roads ("0,1,100000001,1" ∷ []); meets = 2 ∷ 1 ∷ 1 ∷ [] }
     ∷ record { given = roads ("0,1,9,0" ∷ []); meets = 2 ∷ 1 ∷ 1 ∷ [] }
-    ∷ record { given = margin-of "0,1,1000000,500000"; meets = 2 ∷ 1 ∷ 1 ∷ [] }
+    ∷ record { given = by-road "0,1,1000000,500000"; meets = 2 ∷ 1 ∷ 1 ∷ [] }
     -- "a road from a cell to itself, or a second road for a pair", 2 before 3
     ∷ record { given = roads ("4,4,9,1" ∷ []); meets = 3 ∷ 1 ∷ 1 ∷ [] }
     ∷ record { given = roads (AB ∷ "1,2,9,1" ∷ "1,0,9,1" ∷ []); meets = 3 ∷ 1 ∷ 3 ∷ [] }
@@ -85,6 +85,7 @@ cart-rows : List Row
 cart-rows =
     record { given = record { roads = lines ("from,to,length,margin" ∷ []); carts = long; paths = long }; meets = 4 ∷ 2 ∷ 0 ∷ [] }
     ∷ record { given = record { roads = lines ("from,to,length,margin" ∷ []); carts = []; paths = [] }; meets = 1 ∷ 2 ∷ 0 ∷ [] }
+    ∷ record { given = carts ("" ∷ []); meets = 1 ∷ 2 ∷ 1 ∷ [] }
     ∷ record { given = carts ("1000" ∷ []); meets = 1 ∷ 2 ∷ 1 ∷ [] }
     ∷ record { given = carts ("1000," ∷ ",1000" ∷ []); meets = 1 ∷ 2 ∷ 2 ∷ [] }
     ∷ record { given = carts ("1000,," ∷ []); meets = 1 ∷ 2 ∷ 1 ∷ [] }
@@ -99,6 +100,7 @@ cart-rows =
     ∷ record { given = carts (replicate 64 "1000," ++ ("9," ∷ [])); meets = 2 ∷ 2 ∷ 65 ∷ [] }
     -- "no carts (table 2, record 0)", before the paths are read
     ∷ record { given = record { roads = lines ("from,to,length,margin" ∷ []); carts = lines ("fastest,slowest" ∷ []); paths = long }; meets = 5 ∷ 2 ∷ 0 ∷ [] }
+    ∷ record { given = record { roads = lines ("from,to,length,margin" ∷ []); carts = bytes "fastest,slowest"; paths = [] }; meets = 5 ∷ 2 ∷ 0 ∷ [] }
     ∷ []
 
 -- a record of n fields
@@ -120,8 +122,12 @@ path-rows =
     ∷ record { given = paths ("0" ∷ "1" ∷ "2" ∷ []); meets = 6 ∷ 3 ∷ 0 ∷ [] }
     ∷ record { given = paths ("0" ∷ "1" ∷ "x" ∷ []); meets = 1 ∷ 3 ∷ 3 ∷ [] }
     ∷ record { given = paths []; meets = 6 ∷ 3 ∷ 0 ∷ [] }
-    -- "7 over all paths, the lowest record first", before 8 and 9
+    -- a record of no bytes
+    ∷ record { given = paths ("" ∷ []); meets = 1 ∷ 3 ∷ 1 ∷ [] }
+    -- "7 over all paths, the lowest record first", before 8 and before 9
+    ∷ record { given = on-AB ("1000," ∷ "1000," ∷ []) ("0,2" ∷ "1,3" ∷ []); meets = 7 ∷ 3 ∷ 1 ∷ [] }
     ∷ record { given = on-AB ("1000," ∷ "1000," ∷ []) ("0,0" ∷ "0,2" ∷ []); meets = 7 ∷ 3 ∷ 2 ∷ [] }
+    ∷ record { given = on-AB ("1000," ∷ "1000," ∷ []) ("0,1,1" ∷ "1,0,2" ∷ []); meets = 7 ∷ 3 ∷ 2 ∷ [] }
     ∷ []
 
 -- four carts on a square of roads with both diagonals

@@ -24,7 +24,7 @@ pub record Plan : Type 0 where
   pub carts : List Cart
   pub paths : List (List ℕ)
 
--- "A road routes both ways": this one joins the cells a and b
+-- "A road runs both ways": this one joins the cells a and b
 unfoldable pub joins : ℕ → ℕ → Road → Bool
 joins a b r = (eqb (r .from) a && eqb (r .to) b) || (eqb (r .from) b && eqb (r .to) a)
 

@@ -43,6 +43,7 @@ refused r >>= f = refused r
 accepted a >>= f = f a
 
 infixl 10 _>>_
+-- a test, and then the rest
 abbrev pub _>>_ : {B : Type 0} → Judged (Unit {0}) → Judged B → Judged B
 m >> k = m >>= λ _. k
 

@@ -1,16 +1,17 @@
--- The answers' numbers, the log replayed, and calls that are turned down before the tables are read. Assumes nothing.
+-- The answers' numbers, the needs, the log replayed, and calls that are turned down before the tables are read. Assumes nothing.
 use Prim.Native.Nat.{ℕ}
 use mathlib.Core.Path.{_≡_, refl}
+use mathlib.Core.Bool.{true, false}
 use mathlib.Core.List.{[], _∷_, map}
 use mathlib.Core.Option.{none, some}
 use lib.ListN.{length, replicate}
 use Rattle.floor.specs.declared.Reason.the-variants.{Layout, Range, RoadPair, Limit, NoCarts, PathCount, OffRoad, SameCell, Exchange}
 use Rattle.floor.specs.declared.Reason.{Reason}
-use Rattle.floor.specs.declared.Table.the-variants.{Carts, Paths}
+use Rattle.floor.specs.declared.Table.the-variants.{Roads, Carts, Paths}
 use Rattle.floor.specs.Refusal.{refused}
 use Rattle.floor.specs.Plan.{Plan}
 use Rattle.floor.specs.Tables.{Tables}
-use Rattle.schedule.specs.Book.{Report, first-book}
+use Rattle.schedule.specs.Book.{Report, _at_, first-book}
 use Rattle.schedule.specs.Chain.{onward, back}
 use Rattle.hegtalim.specs.declared.Loaded.{Loaded}
 use Rattle.hegtalim.specs.declared.Reported.{Reported}
@@ -19,7 +20,7 @@ use Rattle.words.specs.Words.{open-words}
 use Rattle.schedule.specs.Open.{open-schedule}
 use Rattle.hegtalim.specs.Answers.{open-answers, loaded-answer, reported-answer, timed-answer, c-number}
 use Rattle.hegtalim.specs.PlanSlice.{plan-slice, replay}
-use Rattle.hegtalim.specs.Outcomes.{open-outcomes, load, load-judged, report, report-held, Lent, times-written, chain-written}
+use Rattle.hegtalim.specs.Outcomes.{open-outcomes, load, load-judged, report, report-held, Lent, long-enough, times-written, chain-written, Timetabled, too-short}
 
 -- each reason has the document's number
 reasons-follow : map (λ (why : Reason). loaded-answer (Loaded.Refused (record { reason = why; table = Paths; row = 7 })) .refusal)
@@ -46,10 +47,6 @@ plan =
       paths = (5 ∷ 5 ∷ []) ∷ (6 ∷ 6 ∷ []) ∷ (0 ∷ 1 ∷ []) ∷ [];
     }
 
-infix 20 _at_
-_at_ : ℕ → ℕ → Report
-c at t = record { cart = c; time = t }
-
 -- the log is replayed from its first entry on, and an entry that no book takes undoes it
 replay-follows : map (replay plan (first-book plan)) ([] ∷ ((3 at 10) ∷ (3 at 20) ∷ []) ∷ ((3 at 20) ∷ (3 at 10) ∷ []) ∷ ((1 at 10) ∷ []) ∷ [])
     ≡ some (record { clock = 0; passed = (0 ∷ []) ∷ (0 ∷ []) ∷ (0 ∷ []) ∷ [] })
@@ -57,7 +54,7 @@ replay-follows : map (replay plan (first-book plan)) ([] ∷ ((3 at 10) ∷ (3 a
     ∷ none
     ∷ none
     ∷ []
-unfolding open-schedule replay plan _at_
+unfolding open-schedule replay plan
 replay-follows = refl
 
 -- "14 and 10 to 12 change nothing at all"; a refused load zeroes its slice
@@ -83,7 +80,7 @@ reports-follow : report (9 ∷ []) (3 at 20) ∷ report-held (9 ∷ []) (3 at 20
     ∷ record { answer = Reported.BadTime; plan = 9 ∷ [] }
     ∷ record { answer = Reported.Taken; plan = plan-slice 1 nothing ((3 at 20) ∷ []) }
     ∷ []
-unfolding open-schedule open-outcomes plan _at_ nothing
+unfolding open-schedule open-outcomes plan nothing
 reports-follow = refl
 
 -- a success writes the events' places and nothing else; a chain goes to the front of its slices
@@ -98,3 +95,22 @@ written-follows : times-written (record { times = 258 ∷ 1 ∷ []; passes = 1 }
     ∷ []
 unfolding open-words open-schedule open-outcomes lent
 written-follows = refl
+
+-- "14: a lent slice shorter than the limits above need": each slice at its need, and one place short of it
+slices : ℕ → ℕ → ℕ → Lent
+slices t b d = record { times = replicate t 9; chain-bounds = replicate b 9; chain-directions = replicate d 9 }
+
+needs-follow : map long-enough (slices 32_768 8192 4096 ∷ slices 32_767 8192 4096 ∷ slices 32_768 8191 4096 ∷ slices 32_768 8192 4095 ∷ [])
+    ≡ true ∷ false ∷ false ∷ false ∷ []
+unfolding open-outcomes slices
+needs-follow = refl
+
+plan-need-follows : load nothing (replicate 233_471 9) .answer ∷ load nothing (replicate 233_472 9) .answer ∷ []
+    ≡ Loaded.TooShort ∷ Loaded.Refused (record { reason = Layout; table = Roads; row = 0 }) ∷ []
+unfolding open-schedule open-outcomes nothing
+plan-need-follows = refl
+
+-- and a timetable that is a 14 leaves its slices as they came
+short-follows : Timetabled (9 ∷ []) lent Timed.TooShort lent
+unfolding open-outcomes
+short-follows = too-short refl

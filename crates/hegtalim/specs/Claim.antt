@@ -131,7 +131,7 @@ Answered = (s : List ℕ) (l : Lent) → (a : Timed) × (l′ : Lent) × Timetab
 
 -- ---- what 10 means
 
--- what "an accepted load, with accepted reports since, leaves"
+-- what an "accepted load, with accepted reports since, leaves"
 pub data Left : List ℕ → Type 0 where
   by-load : (ts : Tables) (before : List ℕ) → load ts before .answer ≡ Loaded.Held → Left (load ts before .plan)
   by-report : (s : List ℕ) (r : Report) → Left s → report s r .answer ≡ Reported.Taken → Left (report s r .plan)

@@ -32,7 +32,7 @@ unfoldable pub load-judged : Tables → ℕ → Judged Plan → Load
 load-judged ts n (refused r) = record { answer = Loaded.Refused r; plan = replicate n 0 }
 load-judged ts n (accepted p) = record { answer = Loaded.Held; plan = plan-slice n ts [] }
 
--- "14: a lent slice shorter than the limits above need (tables excepted …). First of all."
+-- "14: a lent slice shorter than the limits above need (tables excepted"; "First of all."
 unfoldable pub load : Tables → List ℕ → Load
 load ts plan =
     elim (leb plan-need (length plan)) [

@@ -6,7 +6,7 @@ use mathlib.Core.Option.{Option, none, some}
 use Rattle.floor.specs.Refusal.{refused, accepted}
 use Rattle.floor.specs.Plan.{Plan}
 use Rattle.floor.specs.Tables.{Tables}
-use Rattle.floor.specs.Examples.{tables, the-pair, on-AB, A-to-B}
+use Rattle.floor.specs.Examples.{tables, the-pair, on-AB, A-to-B, twice-entered, crossing}
 use Rattle.network.specs.Events.{approach, entry, leave, start, finish, passing, events, routes-of}
 use Rattle.network.specs.Bounds.{Bound, bounds, order-bounds}
 use Rattle.network.specs.Judge.{judge}
@@ -16,10 +16,11 @@ use Rattle.network.specs.Open.{open-network}
 plan-of : Tables → Plan
 plan-of ts = elim (judge ts) [ refused r ↦ record { roads = []; carts = []; paths = [] } | accepted p ↦ p ]
 
-bound : ℕ → ℕ → ℕ → Option ℕ → Bound
+-- the bound [l, h] from u to v
+unfoldable pub bound : ℕ → ℕ → ℕ → Option ℕ → Bound
 bound u v l h = record { from = u; to = v; lo = l; hi = h }
 
--- the events of two carts, of which one waits: "Waits leave no event."
+-- "Waits leave no event.": two carts that wait throughout, and one that waits on its way
 waiting : Tables
 waiting = on-AB ("250000," ∷ "250000," ∷ []) ("0,0,0" ∷ "7,7,7" ∷ [])
 
@@ -60,27 +61,15 @@ parts-follow : bounds (plan-of (tables ("4,3,10,3" ∷ []) ("1000," ∷ []) ("3,
 unfolding open-network plan-of bound
 parts-follow = refl
 
--- cart 1 leaves cell 0 once; cart 2 enters it at steps 1 and 3, and the first alone is bound
-twice : Tables
-twice =
-    tables ("0,1,1000000,250000" ∷ "0,2,1000000,250000" ∷ []) ("250000," ∷ "250000," ∷ []) ("0,1,1,1,1" ∷ "2,0,2,0,2" ∷ [])
-
--- three carts cross cell 0 one after the other: each of the two earlier is bound to each that is later
-crossing : Tables
-crossing =
-    tables
-    ("0,1,1000000,250000" ∷ "0,2,1000000,250000" ∷ "0,3,1000000,250000" ∷ "0,4,1000000,250000" ∷ "0,5,1000000,250000" ∷ "0,6,1000000,250000" ∷ [])
-    ("250000," ∷ "250000," ∷ "250000," ∷ [])
-    ("1,0,2,2,2" ∷ "3,3,0,4,4" ∷ "5,5,5,0,6" ∷ [])
-
 -- a leave point, and an approach point, to be passed in this order
 then : ℕ → ℕ → Bound
 then u v = bound u v 0 none
 
-orders-follow : map (λ (ts : Tables). order-bounds (routes-of (plan-of ts))) (the-pair "250000," ∷ twice ∷ crossing ∷ [])
+-- each earlier visit is bound to the first later one of each other cart
+orders-follow : map (λ (ts : Tables). order-bounds (routes-of (plan-of ts))) (the-pair "250000," ∷ twice-entered ∷ crossing "250000," ∷ [])
     ≡ (then 8 22 ∷ then 11 25 ∷ then 15 3 ∷ then 18 6 ∷ [])
     ∷ (then 2 7 ∷ [])
     ∷ (then 5 10 ∷ then 5 17 ∷ then 12 17 ∷ [])
     ∷ []
-unfolding open-network plan-of twice crossing bound then
+unfolding open-network plan-of bound then
 orders-follow = refl

@@ -1,8 +1,8 @@
 -- Rows that document 01 does not mark: its other examples, and what the starred ones do not tell apart.
 -- Assumes nothing.
 use mathlib.Core.List.{List, [], _∷_}
-use Rattle.floor.specs.Examples.{tables, A-to-B, margin-of, ring-of-three}
-use Rattle.rows.specs.Starred.{_at_}
+use Rattle.floor.specs.Examples.{A-to-B, by-road, ring-of-three, apart, twice-entered, crossing}
+use Rattle.schedule.specs.Book.{_at_}
 use Rattle.rows.specs.Row.{load, table-refused, record-refused, events, bounded, time-of, Row, _is_, times-from}
 
 -- the rows not marked
@@ -10,11 +10,11 @@ unfoldable pub further : List Row
 further =
     -- "Margin 500,000: 2; 499,999: accepted."
     record {
-      tables = margin-of "0,1,1000000,500000";
+      tables = by-road "0,1,1000000,500000";
       reports = [];
       facts = (load is 2) ∷ (table-refused is 1) ∷ (record-refused is 1) ∷ [];
     }
-    ∷ record { tables = margin-of "0,1,1000000,499999"; reports = []; facts = (load is 0) ∷ [] }
+    ∷ record { tables = by-road "0,1,1000000,499999"; reports = []; facts = (load is 0) ∷ [] }
     -- "Three carts, each moving to the next cell of a triangle of roads in one step: accepted."
     ∷ record { tables = ring-of-three; reports = []; facts = (load is 0) ∷ (events is 14) ∷ (bounded is 18) ∷ (time-of 13 is 4000) ∷ [] }
     -- "Without that report the program prints …"
@@ -23,23 +23,15 @@ further =
     ∷ record { tables = A-to-B "300000,"; reports = []; facts = times-from 0 (0 ∷ 0 ∷ 834 ∷ 2501 ∷ 3335 ∷ 3335 ∷ []) }
     -- a report of cart 2 is the clock for cart 1, and of no event of cart 1
     ∷ record {
-      tables = tables ("0,1,1000000,250000" ∷ "2,3,1000000,250000" ∷ []) ("250000," ∷ "250000," ∷ []) ("0,1" ∷ "2,3" ∷ []);
+      tables = apart;
       reports = (2 at 1500) ∷ [];
       facts = times-from 0 (0 ∷ 0 ∷ 1500 ∷ 3500 ∷ 4500 ∷ 0 ∷ 1500 ∷ 3500 ∷ 4500 ∷ 4500 ∷ []);
     }
     -- of two later entries to a cell the first alone has an order bound
-    ∷ record {
-      tables = tables ("0,1,1000000,250000" ∷ "0,2,1000000,250000" ∷ []) ("250000," ∷ "250000," ∷ []) ("0,1,1,1,1" ∷ "2,0,2,0,2" ∷ []);
-      reports = [];
-      facts = (events is 19) ∷ (bounded is 20) ∷ [];
-    }
+    ∷ record { tables = twice-entered; reports = []; facts = (events is 19) ∷ (bounded is 20) ∷ [] }
     -- three carts cross a cell: three order bounds, the first to the third cart's among them
     ∷ record {
-      tables =
-          tables
-          ("0,1,1000000,250000" ∷ "0,2,1000000,250000" ∷ "0,3,1000000,250000" ∷ "0,4,1000000,250000" ∷ "0,5,1000000,250000" ∷ "0,6,1000000,250000" ∷ [])
-          ("62500," ∷ "250000," ∷ "250000," ∷ [])
-          ("1,0,2,2,2" ∷ "3,3,0,4,4" ∷ "5,5,5,0,6" ∷ []);
+      tables = crossing "62500,";
       reports = [];
       facts = (events is 23) ∷ (bounded is 27) ∷ (time-of 5 is 20000) ∷ (time-of 10 is 20000) ∷ (time-of 12 is 22000) ∷ (time-of 17 is 22000) ∷ [];
     }

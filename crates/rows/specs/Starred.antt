@@ -3,13 +3,9 @@
 use Prim.Native.Nat.{ℕ}
 use mathlib.Core.List.{List, [], _∷_, _++_}
 use Rattle.floor.specs.Examples.{the-pair, on-AB, A-to-B}
-use Rattle.schedule.specs.Book.{Report}
+use Rattle.schedule.specs.Book.{_at_}
 use Rattle.schedule.specs.Chain.{Item, onward, back}
 use Rattle.rows.specs.Row.{load, table-refused, record-refused, events, bounded, last-report, timed, passes, time-of, chain, cost-of, Row, _is_, times-from}
-
-infix 20 _at_
-abbrev pub _at_ : ℕ → ℕ → Report
-c at t = record { cart = c; time = t }
 
 -- items that go onward, by their bounds' numbers
 unfoldable pub onwards : List ℕ → List Item

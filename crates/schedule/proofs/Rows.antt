@@ -3,10 +3,10 @@ use Prim.Native.Nat.{ℕ}
 use mathlib.Core.Path.{_≡_, refl}
 use mathlib.Core.Bool.{true, false}
 use mathlib.Core.List.{List, [], _∷_, map}
-use mathlib.Core.Option.{Option, none, some}
+use mathlib.Core.Option.{none, some}
 use Rattle.floor.specs.Plan.{Road, Plan}
-use Rattle.network.specs.Bounds.{Bound}
-use Rattle.schedule.specs.Book.{Report, Book, first-book, has-next, in-time, book-after, passed-points, points-to-pass}
+use Rattle.network.proofs.Rows.{bound}
+use Rattle.schedule.specs.Book.{Report, _at_, Book, first-book, has-next, in-time, book-after, passed-points, points-to-pass}
 use Rattle.schedule.specs.Added.{Numbered, added-bounds, numbered-bounds}
 use Rattle.schedule.specs.Timetable.{timetable}
 use Rattle.schedule.specs.Chain.{Direction, onward, back, Item, is-chain}
@@ -29,10 +29,7 @@ two =
       paths = (0 ∷ 1 ∷ []) ∷ (2 ∷ 3 ∷ []) ∷ [];
     }
 
-infix 20 _at_
-_at_ : ℕ → ℕ → Report
-c at t = record { cart = c; time = t }
-
+-- the book after some reports
 book : Plan → List Report → Book
 book p rs = go (first-book p) rs
   where
@@ -46,43 +43,40 @@ books-follow : book two [] ∷ book two ((2 at 1500) ∷ []) ∷ book two ((2 at
     ∷ record { clock = 1500; passed = (0 ∷ []) ∷ (0 ∷ 1500 ∷ []) ∷ [] }
     ∷ record { clock = 7000; passed = (0 ∷ 1500 ∷ []) ∷ (0 ∷ 1500 ∷ 7000 ∷ []) ∷ [] }
     ∷ []
-unfolding open-schedule two road book _at_
+unfolding open-schedule two road book
 books-follow = refl
 
 -- "if its cart isn't there or has passed all its points"
 next-follow : has-next one (book one []) (0 at 0) ∷ has-next one (book one []) (1 at 0) ∷ has-next one (book one []) (2 at 0)
     ∷ has-next one (book one ((1 at 1) ∷ (1 at 2) ∷ [])) (1 at 3) ∷ has-next one (book one ((1 at 1) ∷ (1 at 2) ∷ (1 at 3) ∷ [])) (1 at 3) ∷ []
     ≡ false ∷ true ∷ false ∷ true ∷ false ∷ []
-unfolding open-schedule one road book _at_
+unfolding open-schedule one road book
 next-follow = refl
 
 -- "if its time is below the clock or over 10^12"
 time-follow : map (in-time (book one ((1 at 500) ∷ []))) ((1 at 499) ∷ (1 at 500) ∷ (1 at 1_000_000_000_000) ∷ (1 at 1_000_000_000_001) ∷ [])
     ≡ false ∷ true ∷ true ∷ false ∷ []
-unfolding open-schedule one road book _at_
+unfolding open-schedule one road book
 time-follow = refl
 
 -- what the book has as passed and as still to be passed, and the bounds that it adds
-bound : ℕ → ℕ → ℕ → Option ℕ → Bound
-bound u v l h = record { from = u; to = v; lo = l; hi = h }
-
 passed-follow : passed-points two (book two ((2 at 1500) ∷ []))
     ≡ record { event = 1; time = 0 } ∷ record { event = 5; time = 0 } ∷ record { event = 6; time = 1500 } ∷ []
-unfolding open-schedule two road book _at_
+unfolding open-schedule two road book
 passed-follow = refl
 
 to-pass-follow : points-to-pass two (book two ((2 at 1500) ∷ [])) ≡ 2 ∷ 3 ∷ 4 ∷ 7 ∷ 8 ∷ []
-unfolding open-schedule two road book _at_
+unfolding open-schedule two road book
 to-pass-follow = refl
 
 added-follow : added-bounds two (book two ((2 at 1500) ∷ []))
     ≡ bound 0 2 1500 none ∷ bound 0 3 1500 none ∷ bound 0 4 1500 none ∷ bound 0 6 1500 (some 1500) ∷ bound 0 7 1500 none ∷ bound 0 8 1500 none ∷ []
-unfolding open-schedule two road book _at_ bound
+unfolding open-schedule two road book bound
 added-follow = refl
 
 numbers-follow : map (λ (x : Numbered). x .number) (numbered-bounds two (book two []))
     ≡ 0 ∷ 1 ∷ 2 ∷ 3 ∷ 4 ∷ 5 ∷ 6 ∷ 7 ∷ 8 ∷ 9 ∷ 10_002 ∷ 10_003 ∷ 10_004 ∷ 10_006 ∷ 10_007 ∷ 10_008 ∷ []
-unfolding open-schedule two road book _at_
+unfolding open-schedule two road book
 numbers-follow = refl
 
 -- one move in a row takes five passes; a report of cart 2 moves cart 1 by the clock
@@ -92,7 +86,7 @@ times-follow : timetable one (book one []) ∷ timetable one (book one ((1 at 15
     ∷ none
     ∷ some (record { times = 0 ∷ 0 ∷ 1500 ∷ 3500 ∷ 4500 ∷ 0 ∷ 1500 ∷ 3500 ∷ 4500 ∷ 4500 ∷ []; passes = 4 })
     ∷ []
-unfolding open-schedule one two road book _at_
+unfolding open-schedule one two road book
 times-follow = refl
 
 -- the report at 500 against a lo of 1,000: a chain, and what is none
@@ -118,5 +112,5 @@ chains-follow : map (is-chain one (book one ((1 at 500) ∷ [])))
     ∷ (item 10_001 back ∷ item 0 back ∷ [])
     ∷ [])
     ≡ true ∷ true ∷ false ∷ false ∷ false ∷ false ∷ false ∷ false ∷ false ∷ false ∷ []
-unfolding open-schedule one road book _at_ item
+unfolding open-schedule one road book item
 chains-follow = refl

@@ -13,6 +13,11 @@ pub record Report : Type 0 where
   pub cart : ℕ
   pub time : ℕ
 
+infix 20 _at_
+-- the report of cart c at time t
+abbrev pub _at_ : ℕ → ℕ → Report
+c at t = record { cart = c; time = t }
+
 -- "The book holds the clock and, for each cart, the points passed with their times": a cart passes its points in their order, so the times tell which
 pub record Book : Type 0 where
   pub clock : ℕ
@@ -22,19 +27,23 @@ pub record Book : Type 0 where
 unfoldable pub first-book : Plan → Book
 first-book p = record { clock = 0; passed = map (λ (r : Route). 0 ∷ []) (routes-of p) }
 
--- how many points a cart has: "Carts count from 1", so nobody is number 0, and one that "isn't there" has none
+-- whether a cart is there: "Carts count from 1"
+unfoldable pub is-there : Plan → ℕ → Bool
+is-there p c = leb 1 c && leb c (length (p .carts))
+
+-- how many points a cart has
 unfoldable pub points-of : Plan → ℕ → ℕ
-points-of p c = getD (0 ∷ map (λ (r : Route). length (route-points r)) (routes-of p)) c 0
+points-of p c = getD (map (λ (r : Route). length (route-points r)) (routes-of p)) (c - 1) 0
 
 -- the times of the points that a cart has passed
 unfoldable pub passed-by : Book → ℕ → List ℕ
-passed-by b c = getD ([] ∷ b .passed) c []
+passed-by b c = getD (b .passed) (c - 1) []
 
--- whether its cart is there and has not "passed all its points"
+-- no 11: not "if its cart isn't there or has passed all its points"
 unfoldable pub has-next : Plan → Book → Report → Bool
-has-next p b r = ltb (length (passed-by b (r .cart))) (points-of p (r .cart))
+has-next p b r = is-there p (r .cart) && ltb (length (passed-by b (r .cart))) (points-of p (r .cart))
 
--- whether its time is not "below the clock or over 10^12"
+-- no 12: not "if its time is below the clock or over 10^12"
 unfoldable pub in-time : Book → Report → Bool
 in-time b r = leb (b .clock) (r .time) && leb (r .time) 1_000_000_000_000
 
@@ -86,5 +95,5 @@ points-to-pass p b = by-cart route-to-pass (routes-of p) (b .passed)
 
 -- Names every definition of this module, for a proof that computes with them all.
 unfoldable pub open-book : Unit {0}
-unfolding first-book points-of passed-by has-next in-time acceptable pass-next book-after passed-at route-passed route-to-pass by-cart passed-points points-to-pass
+unfolding first-book is-there points-of passed-by has-next in-time acceptable pass-next book-after passed-at route-passed route-to-pass by-cart passed-points points-to-pass
 open-book = tt

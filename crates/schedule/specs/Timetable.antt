@@ -29,7 +29,7 @@ ways b = forward b ∷ backward b (b .hi)
 unfoldable pub arcs : Plan → Book → List Arc
 arcs p b = flatMap ways (all-bounds p b)
 
--- the time of an event: its greatest sum; 0 stands in where there is none or it is below 0, which demand 3 excludes
+-- the time of an event: its greatest sum; 0 stands in where there is none or it is below 0 (docs/DECISIONS.md, "Sums that are no times")
 unfoldable pub time : Option ℤ → ℕ
 time none = 0
 time (some (pos n)) = n
