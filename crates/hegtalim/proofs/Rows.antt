@@ -1,4 +1,4 @@
--- The answers' numbers, the needs, the log replayed, and calls that are turned down before the tables are read. Assumes nothing.
+-- The answers' numbers, the needs, and calls that are turned down before the tables are read. Assumes nothing.
 use Prim.Native.Nat.{ℕ}
 use mathlib.Core.Path.{_≡_, refl}
 use mathlib.Core.Bool.{true, false}
@@ -11,7 +11,7 @@ use Rattle.floor.specs.declared.Table.the-variants.{Roads, Carts, Paths}
 use Rattle.floor.specs.Refusal.{refused}
 use Rattle.floor.specs.Plan.{Plan}
 use Rattle.floor.specs.Tables.{Tables}
-use Rattle.schedule.specs.Book.{Report, _at_, first-book}
+use Rattle.schedule.specs.Book.{Report, _at_}
 use Rattle.schedule.specs.Chain.{onward, back}
 use Rattle.hegtalim.specs.declared.Loaded.{Loaded}
 use Rattle.hegtalim.specs.declared.Reported.{Reported}
@@ -19,7 +19,7 @@ use Rattle.hegtalim.specs.declared.Timed.{Timed}
 use Rattle.words.specs.Words.{open-words}
 use Rattle.schedule.specs.Open.{open-schedule}
 use Rattle.hegtalim.specs.Answers.{open-answers, loaded-answer, reported-answer, timed-answer, c-number}
-use Rattle.hegtalim.specs.PlanSlice.{plan-slice, replay}
+use Rattle.hegtalim.specs.PlanSlice.{plan-slice}
 use Rattle.hegtalim.specs.Outcomes.{open-outcomes, load, load-judged, report, report-held, Lent, long-enough, times-written, chain-written, Timetabled, too-short}
 
 -- each reason has the document's number
@@ -46,16 +46,6 @@ plan =
       carts = record { fastest = 1000; slowest = none } ∷ record { fastest = 1000; slowest = none } ∷ record { fastest = 1000; slowest = none } ∷ [];
       paths = (5 ∷ 5 ∷ []) ∷ (6 ∷ 6 ∷ []) ∷ (0 ∷ 1 ∷ []) ∷ [];
     }
-
--- the log is replayed from its first entry on, and an entry that no book takes undoes it
-replay-follows : map (replay plan (first-book plan)) ([] ∷ ((3 at 10) ∷ (3 at 20) ∷ []) ∷ ((3 at 20) ∷ (3 at 10) ∷ []) ∷ ((1 at 10) ∷ []) ∷ [])
-    ≡ some (record { clock = 0; passed = (0 ∷ []) ∷ (0 ∷ []) ∷ (0 ∷ []) ∷ [] })
-    ∷ some (record { clock = 20; passed = (0 ∷ []) ∷ (0 ∷ []) ∷ (0 ∷ 10 ∷ 20 ∷ []) ∷ [] })
-    ∷ none
-    ∷ none
-    ∷ []
-unfolding open-schedule replay plan
-replay-follows = refl
 
 -- "14 and 10 to 12 change nothing at all"; a refused load zeroes its slice
 nothing : Tables

@@ -12,7 +12,7 @@ use Rattle.floor.specs.Refusal.{Judged, refused, accepted}
 use Rattle.floor.specs.Plan.{Plan}
 use Rattle.floor.specs.Tables.{Tables}
 use Rattle.network.specs.Judge.{judge}
-use Rattle.schedule.specs.Book.{Report, Book, first-book, acceptable, pass-next}
+use Rattle.schedule.specs.Book.{Report, Book, first-book, replay}
 
 -- "docs/ lists each need": a plan slice's is 233,472 places, three tables, the carts of the log and its times
 abbrev pub plan-need : ℕ
@@ -68,11 +68,6 @@ entries (c ∷ cs) s = record { cart = c; time = little (take 8 s) } ∷ entries
 unfoldable pub log-in : List ℕ → List Report
 log-in s = entries (until-zero (take 4096 (drop 196_608 s))) (drop 200_704 s)
 
--- the book after some reports, if each in its turn is accepted
-unfoldable pub replay : Plan → Book → List Report → Option Book
-replay p b [] = some b
-replay p b (r ∷ rs) = elim (acceptable p b r) [ true ↦ replay p (pass-next b r) rs | false ↦ none ]
-
 -- a plan held: the tables and the log in its slice, and the plan and the book that they come to
 pub record Held : Type 0 where
   pub tables : Tables
@@ -103,5 +98,5 @@ held s =
 
 -- Names every definition of this module, for a proof that computes with them all.
 unfoldable pub open-plan-slice : Unit {0}
-unfolding padded plan-slice until-zero tables-in entries log-in replay nothing-else held-by held
+unfolding padded plan-slice until-zero tables-in entries log-in nothing-else held-by held
 open-plan-slice = tt

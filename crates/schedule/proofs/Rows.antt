@@ -6,7 +6,7 @@ use mathlib.Core.List.{List, [], _∷_, map}
 use mathlib.Core.Option.{none, some}
 use Rattle.floor.specs.Plan.{Road, Plan}
 use Rattle.network.proofs.Rows.{bound}
-use Rattle.schedule.specs.Book.{Report, _at_, Book, first-book, has-next, in-time, book-after, passed-points, points-to-pass}
+use Rattle.schedule.specs.Book.{Report, _at_, Book, first-book, has-next, in-time, book-after, replay, passed-points, points-to-pass}
 use Rattle.schedule.specs.Added.{Numbered, added-bounds, numbered-bounds}
 use Rattle.schedule.specs.Timetable.{timetable}
 use Rattle.schedule.specs.Chain.{Direction, onward, back, Item, is-chain}
@@ -45,6 +45,16 @@ books-follow : book two [] ∷ book two ((2 at 1500) ∷ []) ∷ book two ((2 at
     ∷ []
 unfolding open-schedule two road book
 books-follow = refl
+
+-- the log is replayed from its first entry on, and an entry that no book takes undoes it
+replay-follows : map (replay two (first-book two)) ([] ∷ ((2 at 10) ∷ (2 at 20) ∷ []) ∷ ((2 at 20) ∷ (2 at 10) ∷ []) ∷ ((3 at 10) ∷ []) ∷ [])
+    ≡ some (record { clock = 0; passed = (0 ∷ []) ∷ (0 ∷ []) ∷ [] })
+    ∷ some (record { clock = 20; passed = (0 ∷ []) ∷ (0 ∷ 10 ∷ 20 ∷ []) ∷ [] })
+    ∷ none
+    ∷ none
+    ∷ []
+unfolding open-schedule two road
+replay-follows = refl
 
 -- "if its cart isn't there or has passed all its points"
 next-follow : has-next one (book one []) (0 at 0) ∷ has-next one (book one []) (1 at 0) ∷ has-next one (book one []) (2 at 0)

@@ -1,8 +1,9 @@
 -- The marker's book (document 01, "Reports and timetable").
 -- Assumes nothing.
 use Prim.Native.Nat.{ℕ, _-_}
-use mathlib.Core.Bool.{Bool, _&&_, cond}
+use mathlib.Core.Bool.{Bool, true, false, _&&_, cond}
 use mathlib.Core.List.{List, [], _∷_, _++_, map}
+use mathlib.Core.Option.{Option, none, some}
 use lib.Dec.{leb, ltb}
 use lib.ListN.{length, getD, set, drop}
 use Rattle.floor.specs.Plan.{Plan}
@@ -60,6 +61,11 @@ pass-next b r =
 unfoldable pub book-after : Plan → Book → Report → Book
 book-after p b r = cond (acceptable p b r) (pass-next b r) b
 
+-- the book after some reports, if each in its turn is accepted
+unfoldable pub replay : Plan → Book → List Report → Option Book
+replay p b [] = some b
+replay p b (r ∷ rs) = elim (acceptable p b r) [ true ↦ replay p (pass-next b r) rs | false ↦ none ]
+
 -- a point passed: its event, and its time
 pub record Passed : Type 0 where
   pub event : ℕ
@@ -95,5 +101,5 @@ points-to-pass p b = by-cart route-to-pass (routes-of p) (b .passed)
 
 -- Names every definition of this module, for a proof that computes with them all.
 unfoldable pub open-book : Unit {0}
-unfolding first-book is-there points-of passed-by has-next in-time acceptable pass-next book-after passed-at route-passed route-to-pass by-cart passed-points points-to-pass
+unfolding first-book is-there points-of passed-by has-next in-time acceptable pass-next book-after replay passed-at route-passed route-to-pass by-cart passed-points points-to-pass
 open-book = tt

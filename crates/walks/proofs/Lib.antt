@@ -1,5 +1,4 @@
 pub mod Rows
 pub mod Quick
-pub mod Signed
 pub mod Greatest
 pub mod PassNumber

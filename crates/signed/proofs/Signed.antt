@@ -1,6 +1,7 @@
 -- The signed numbers of `lib.IntN`, read by `omega`. A number z is up z - dn z, for two naturals of which one is 0.
 -- `≤ℤ`, `<ℤ` and `≡` on ℤ are then orders and equations of naturals, and `sum` says what a sum's two parts are.
---     omega (signed, sum a b)      proves an order or an equation of ℤ from those in reach; list `sum a b` for each sum a +ℤ b that it has to see through
+--     omega (signed, sum a b)      proves an order or an equation of ℤ from those in reach; list `sum a b` for each sum a +ℤ b that it has to see through,
+--                                  `difference a b` for each difference, `neg-up a` and `neg-dn a` for each negℤ a
 -- Assumes nothing.
 use mathlib.Core.Path.{_≡_, refl, ap}
 use mathlib.Core.Logic.{_⊎_, inl, inr}
@@ -8,7 +9,7 @@ use mathlib.Core.Bool.{Bool, true, false, not, cond}
 use Prim.Native.Nat.{ℕ, zero, suc, _+_, _-_, _≤_, _<_}
 use native.Mathlib.Omega.{arith}
 use lib.Dec.{T, ltb, leb→le, le→leb, ltb→lt, lt→ltb, nltb→le}
-use lib.IntN.{ℤ, pos, negsuc, _+ℤ_, subℕ}
+use lib.IntN.{ℤ, pos, negsuc, _+ℤ_, negℤ, _-ℤ_, subℕ}
 use lib.Signed.{mag, leZ, ltZ, _≤ℤ_, _<ℤ_, leZ-yes, ltZ-yes, ltZ-no}
 
 abbrev pub up : ℤ → ℕ
@@ -41,7 +42,24 @@ sum (pos a) (negsuc b) = omega (arith, sub-parts a (suc b))
 sum (negsuc a) (pos b) = omega (arith, sub-parts b (suc a))
 sum (negsuc a) (negsuc b) = omega arith
 
--- its parts are at most the sums of the parts: how far a sum can grow
+-- ---- a number with the other sign, and a difference
+
+pub neg-up : (z : ℤ) → up (negℤ z) ≡ dn z
+neg-up (pos zero) = refl
+neg-up (pos (suc n)) = refl
+neg-up (negsuc n) = refl
+
+pub neg-dn : (z : ℤ) → dn (negℤ z) ≡ up z
+neg-dn (pos zero) = refl
+neg-dn (pos (suc n)) = refl
+neg-dn (negsuc n) = refl
+
+pub difference : (a b : ℤ) → up (a -ℤ b) + (dn a + up b) ≡ dn (a -ℤ b) + (up a + dn b)
+difference a b = omega (arith, sum a (negℤ b), neg-up b, neg-dn b)
+
+-- ---- how far a sum can grow
+
+-- its parts are at most the sums of the parts
 sub-up : (a b : ℕ) → up (subℕ a b) ≤ a
 sub-up a b = cond-ind (ltb a b) (negsuc (b - suc a)) (pos (a - b)) (λ z. up z ≤ a) (λ t. omega arith) (λ t. omega arith)
 
