@@ -1,0 +1,1 @@
+// Lists and their members: laws, in proofs/.
