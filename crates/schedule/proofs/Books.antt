@@ -111,23 +111,23 @@ book-kept p log b h e = replay-kept p (first-book p) log b (record { carts = fir
 -- ---- what is said cart by cart
 
 -- x is among what f gives for one cart's route and times, and all that g gives for them is among what g gives
-pub record AtCart {A : Type 0} (B : Type 0) (clock : ℕ) (f : Route → List ℕ → List A) (rs : List Route) (tss : List (List ℕ)) (x : A) : Type 1 where
+pub record AtCart {A : Type 0} (clock : ℕ) (f : Route → List ℕ → List A) (rs : List Route) (tss : List (List ℕ)) (x : A) : Type 1 where
   pub route : Route
   pub times : List ℕ
   pub of-plan : List·Memᴰ route rs
   pub kept : Kept clock route times
   pub here : List·Memᴰ x (f route times)
-  pub too : (g : Route → List ℕ → List B) (y : B) → List·Memᴰ y (g route times) → List·Memᴰ y (by-cart g rs tss)
+  pub too : {B : Type 0} (g : Route → List ℕ → List B) (y : B) → List·Memᴰ y (g route times) → List·Memᴰ y (by-cart g rs tss)
 
-pub at-cart : {A : Type 0} (B : Type 0) {clock : ℕ} (f : Route → List ℕ → List A) {rs : List Route} {tss : List (List ℕ)} (x : A) → AllKept clock rs tss
+pub at-cart : {A : Type 0} {clock : ℕ} (f : Route → List ℕ → List A) {rs : List Route} {tss : List (List ℕ)} (x : A) → AllKept clock rs tss
     → List·Memᴰ x (by-cart f rs tss)
-    → AtCart B clock f rs tss x
+    → AtCart clock f rs tss x
 unfolding by-cart
-at-cart B f x no-cart m = absurd (List·Memᴰ·not-nil m)
-at-cart B f x (one-more {r = r} {ts = ts} {rs = rs} {tss = tss} k ks) m =
+at-cart f x no-cart m = absurd (List·Memᴰ·not-nil m)
+at-cart f x (one-more {r = r} {ts = ts} {rs = rs} {tss = tss} k ks) m =
     ⊎-elim
     (λ h. record { route = r; times = ts; of-plan = List·Memᴰ·head refl; kept = k; here = h; too = λ g y a. Memᴰ·append-left (by-cart g rs tss) a })
-    (λ h. let a : AtCart B _ f rs tss x = at-cart B f x ks h in
+    (λ h. let a : AtCart _ f rs tss x = at-cart f x ks h in
     record {
       route = a .route;
       times = a .times;

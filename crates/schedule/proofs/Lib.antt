@@ -1,3 +1,4 @@
 pub mod Rows
 pub mod Quick
 pub mod Books
+pub mod Solutions
