@@ -2,3 +2,4 @@ pub mod Rows
 pub mod Quick
 pub mod Books
 pub mod Solutions
+pub mod Numbers

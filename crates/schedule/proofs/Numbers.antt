@@ -1,0 +1,186 @@
+-- A bound's number leads to that bound: no two bounds have the same. Assumes nothing.
+use Prim.Native.Nat.{ℕ, zero, suc, _+_, _≤_, _<_}
+use native.Mathlib.Omega.{arith}
+use mathlib.Core.Path.{_≡_, refl, ap, ap₂, sym, _∙_, subst}
+use mathlib.Core.Logic.{⊎-elim}
+use mathlib.Core.Bool.{Bool, true, false, cond}
+use mathlib.Core.List.{List, [], _∷_, _++_, map, tail, append-assoc, List·Memᴰ, List·Memᴰ·head, List·Memᴰ·tail, List·Memᴰ·not-nil, List·Memᴰ·cases-cons, List·Memᴰ·append-cases}
+use mathlib.Core.Option.{Option}
+use lib.Dec.{T, eqb, eqb→eq, eqb-refl}
+use lib.ListN.{length, drop}
+use Rattle.lists.proofs.Members.{member-map}
+use Rattle.floor.specs.Plan.{Cart, Plan}
+use Rattle.network.specs.Events.{Route, Point, points, visits-of, routes, routes-of, route-points, route-events, places}
+use Rattle.network.specs.Bounds.{Bound, bounds}
+use Rattle.schedule.specs.Book.{Book, Passed, passed-at, route-passed, route-to-pass, by-cart}
+use Rattle.schedule.specs.Added.{reported-bound, clock-bound, route-added, added-bounds, all-bounds, Numbered, numbered, added-numbered, numbered-bounds}
+use Rattle.schedule.specs.Chain.{Direction, Item, Leg, leg, leg-of}
+use Rattle.schedule.proofs.Books.{Kept, AllKept, no-cart, one-more, KeptBook}
+
+-- ---- looking a number up
+
+eqb-yes : (m n : ℕ) → m ≡ n → eqb m n ≡ true
+eqb-yes m n e = by (eqb m n) (subst (λ (x : ℕ). T (eqb m x)) e (eqb-refl m))
+  where
+    by : (b : Bool) → T b → b ≡ true
+    by true t = refl
+    by false t = absurd t
+
+eqb-no : (m n : ℕ) → ¬ (m ≡ n) → eqb m n ≡ false
+eqb-no m n h = by (eqb m n) refl
+  where
+    by : (b : Bool) → eqb m n ≡ b → b ≡ false
+    by true e = absurd (h (eqb→eq m n (subst T (sym e) tt)))
+    by false e = refl
+
+-- the first bound has the number
+found : (x : Numbered) (bs : List Numbered) (i : Item) → x .number ≡ i .number → leg-of (x ∷ bs) i ≡ leg (x .bound) (i .direction)
+unfolding leg-of
+found x bs i e = ap (λ (t : Bool). cond t (leg (x .bound) (i .direction)) (leg-of bs i)) (eqb-yes (x .number) (i .number) e)
+
+-- it has another
+passed-over : (x : Numbered) (bs : List Numbered) (i : Item) → ¬ (x .number ≡ i .number) → leg-of (x ∷ bs) i ≡ leg-of bs i
+unfolding leg-of
+passed-over x bs i h = ap (λ (t : Bool). cond t (leg (x .bound) (i .direction)) (leg-of bs i)) (eqb-no (x .number) (i .number) h)
+
+-- ---- the plan's own bounds
+
+-- the number k leads to the bound c
+pub record Leads (bs : List Numbered) (c : Bound) (k : ℕ) : Type 0 where
+  pub leads : (d : Direction) → leg-of bs (record { number = k; direction = d }) ≡ leg c d
+
+lead-on : (x : Numbered) (bs : List Numbered) (c : Bound) (k : ℕ) → ¬ (x .number ≡ k) → Leads bs c k → Leads (x ∷ bs) c k
+lead-on x bs c k h l = record { leads = λ d. passed-over x bs (record { number = k; direction = d }) h ∙ l .leads d }
+
+lead-here : (x : Numbered) (bs : List Numbered) (c : Bound) → c ≡ x .bound → Leads (x ∷ bs) c (x .number)
+lead-here x bs c e = record { leads = λ d. found x bs (record { number = x .number; direction = d }) refl ∙ ap (λ (y : Bound). leg y d) (sym e) }
+
+-- a bound among those numbered from i on has a number among theirs
+own-number : (bs : List Bound) (i : ℕ) (rest : List Numbered) (c : Bound) → List·Memᴰ c bs → (k : ℕ) × (i ≤ k) × Leads (numbered i bs ++ rest) c k
+unfolding numbered
+own-number [] i rest c m = absurd (List·Memᴰ·not-nil m)
+own-number (b ∷ bs) i rest c m =
+    ⊎-elim
+    (λ (e : c ≡ b). (i, omega arith, lead-here (record { number = i; bound = b }) (numbered (suc i) bs ++ rest) c e))
+    (λ t. let (k, l, h) = own-number bs (suc i) rest c t in
+    (k, omega (arith, l), lead-on (record { number = i; bound = b }) (numbered (suc i) bs ++ rest) c k (λ (e : i ≡ k). omega (arith, l)) h))
+    (List·Memᴰ·cases-cons m)
+
+-- a number past theirs is looked for further on
+past-own : (bs : List Bound) (i : ℕ) (rest : List Numbered) (x : Item) → i + length bs ≤ x .number → leg-of (numbered i bs ++ rest) x ≡ leg-of rest x
+unfolding numbered
+past-own [] i rest x l = refl
+past-own (b ∷ bs) i rest x l =
+    passed-over (record { number = i; bound = b }) (numbered (suc i) bs ++ rest) x (λ e. omega arith)
+    ∙ past-own bs (suc i) rest x (omega arith)
+
+-- ---- the added ones: each cart event but the first entries has one at most
+
+-- numbers from e on, each above the one before
+abbrev pub Rising : ℕ → List ℕ → Type 0
+Rising e [] = Unit {0}
+Rising e (x ∷ xs) = (e ≤ x) × Rising (suc x) xs
+
+rising-from : (l : List ℕ) (d e : ℕ) → d ≤ e → Rising e l → Rising d l
+rising-from [] d e h r = tt
+rising-from (x ∷ xs) d e h r = (omega (arith, r .0), r .1)
+
+rising-member : (l : List ℕ) (e x : ℕ) → Rising e l → List·Memᴰ x l → e ≤ x
+rising-member [] e x r m = absurd (List·Memᴰ·not-nil m)
+rising-member (y ∷ ys) e x r m =
+    ⊎-elim (λ (q : x ≡ y). omega (arith, r .0)) (λ t. let h : suc y ≤ x = rising-member ys (suc y) x (r .1) t in omega (arith, r .0)) (List·Memᴰ·cases-cons m)
+
+rising-places : {A : Type 0} (xs : List A) (e : ℕ) (rest : List ℕ) → Rising (e + length xs) rest → Rising e (places e xs ++ rest)
+unfolding places
+rising-places [] e rest r = rising-from rest e (e + 0) (omega arith) r
+rising-places (x ∷ xs) e rest r = (omega arith, rising-places xs (suc e) rest (rising-from rest (suc e + length xs) (e + suc (length xs)) (omega arith) r))
+
+-- the events of a list of bounds' ends
+abbrev ends : List Bound → List ℕ
+ends = map (λ (b : Bound). b .to)
+
+ends-append : (xs ys : List Bound) → ends (xs ++ ys) ≡ ends xs ++ ends ys
+ends-append [] ys = refl
+ends-append (x ∷ xs) ys = ap (λ (l : List ℕ). x .to ∷ l) (ends-append xs ys)
+
+ends-waiting : (es : List ℕ) (c : ℕ) → ends (map (clock-bound c) es) ≡ es
+unfolding clock-bound
+ends-waiting [] c = refl
+ends-waiting (e ∷ es) c = ap (λ (l : List ℕ). e ∷ l) (ends-waiting es c)
+
+-- the points passed and those still to be passed are all there are
+ends-all : (es ts : List ℕ) (c : ℕ) → ends (map reported-bound (passed-at es ts) ++ map (clock-bound c) (drop (length ts) es)) ≡ es
+unfolding passed-at reported-bound clock-bound
+ends-all [] [] c = refl
+ends-all [] (t ∷ ts) c = refl
+ends-all (e ∷ es) [] c = ap (λ (l : List ℕ). e ∷ l) (ends-waiting es c)
+ends-all (e ∷ es) (t ∷ ts) c = ap (λ (l : List ℕ). e ∷ l) (ends-all es ts c)
+
+-- so a cart's added bounds end at its events, its first entry excepted
+route-ends : (r : Route) (ts : List ℕ) (c : ℕ) → Kept c r ts → ends (route-added c r ts) ≡ tail (route-events r)
+unfolding route-added route-passed route-to-pass route-events places passed-at
+route-ends r ts c k = subst (λ (us : List ℕ). Shown (route-events r) us) (sym (k .from-0)) (by (route-events r))
+  where
+    Shown : List ℕ → List ℕ → Type 0
+    Shown es us = ends (map reported-bound (tail (passed-at es us)) ++ map (clock-bound c) (drop (length us) es)) ≡ tail es
+
+    by : (es : List ℕ) → Shown es (0 ∷ k .later)
+    by [] = refl
+    by (e ∷ es) = ends-all es (k .later) c
+
+rising-tail : {A : Type 0} (xs : List A) (e : ℕ) (rest : List ℕ) → Rising (e + length xs) rest → Rising e (tail (places e xs) ++ rest)
+unfolding places
+rising-tail [] e rest r = rising-from rest e (e + 0) (omega arith) r
+rising-tail (x ∷ xs) e rest r =
+    rising-from (places (suc e) xs ++ rest) e (suc e) (omega arith)
+    (rising-places xs (suc e) rest (rising-from rest (suc e + length xs) (e + suc (length xs)) (omega arith) r))
+
+-- they rise from cart to cart
+added-rise : (cs : List Cart) (ps : List (List ℕ)) (j e c : ℕ) (tss : List (List ℕ)) → AllKept c (routes j e cs ps) tss
+    → Rising e (ends (by-cart (route-added c) (routes j e cs ps) tss))
+unfolding routes by-cart route-events route-points
+added-rise [] ps j e c tss k = tt
+added-rise (d ∷ cs) [] j e c tss k = tt
+added-rise (d ∷ cs) (p ∷ ps) j e c tss k = by (e + length (points (visits-of p))) tss k (λ more ks. added-rise cs ps (suc j) (e + length (points (visits-of p))) c more ks)
+  where
+    r : Route
+    r = record { number = j; cart = d; visits = visits-of p; first = e }
+
+    by : (f : ℕ) (tss : List (List ℕ)) → AllKept c (r ∷ routes (suc j) f cs ps) tss
+        → ((more : List (List ℕ)) → AllKept c (routes (suc j) f cs ps) more → Rising (e + length (route-points r)) (ends (by-cart (route-added c) (routes (suc j) f cs ps) more)))
+        → Rising e (ends (by-cart (route-added c) (r ∷ routes (suc j) f cs ps) tss))
+    by f tss (one-more {ts = ts} {tss = more} k ks) rise =
+        let rest = by-cart (route-added c) (routes (suc j) f cs ps) more in
+        subst (Rising e) (sym (ends-append (route-added c r ts) rest ∙ ap (λ (l : List ℕ). l ++ ends rest) (route-ends r ts c k)))
+        (rising-tail (route-points r) e (ends rest) (rise more ks))
+
+-- ---- so a number of theirs leads to one bound
+
+added-leads : (bs : List Bound) (e : ℕ) (c : Bound) → Rising e (ends bs) → List·Memᴰ c bs → Leads (added-numbered bs) c (10_000 + c .to)
+unfolding added-numbered
+added-leads [] e c r m = absurd (List·Memᴰ·not-nil m)
+added-leads (b ∷ bs) e c r m =
+    ⊎-elim
+    (λ (q : c ≡ b). subst (λ (x : Bound). Leads (added-numbered (b ∷ bs)) c (10_000 + x .to)) (sym q) (lead-here (record { number = 10_000 + b .to; bound = b }) (added-numbered bs) c q))
+    (λ t. let l : suc (b .to) ≤ c .to = rising-member (ends bs) (suc (b .to)) (c .to) (r .1) (member-map (λ (x : Bound). x .to) t) in
+    lead-on (record { number = 10_000 + b .to; bound = b }) (added-numbered bs) c (10_000 + c .to) (λ (q : 10_000 + b .to ≡ 10_000 + c .to). omega arith) (added-leads bs (suc (b .to)) c (r .1) t))
+    (List·Memᴰ·cases-cons m)
+
+-- every bound of a plan and its book has a number that leads to it
+pub has-number : (p : Plan) (b : Book) → KeptBook p b → length (bounds p) ≤ 8192 → (c : Bound) → List·Memᴰ c (all-bounds p b)
+    → (k : ℕ) × Leads (numbered-bounds p b) c k
+unfolding all-bounds numbered-bounds added-bounds routes-of
+has-number p b kept few c m = ⊎-elim own added (List·Memᴰ·append-cases (bounds p) m)
+  where
+    own : List·Memᴰ c (bounds p) → (k : ℕ) × Leads (numbered-bounds p b) c k
+    own h = let (k, l, q) = own-number (bounds p) 0 (added-numbered (added-bounds p b)) c h in (k, q)
+
+    added : List·Memᴰ c (added-bounds p b) → (k : ℕ) × Leads (numbered-bounds p b) c k
+    added h =
+        let q = added-leads (added-bounds p b) 1 c (added-rise (p .carts) (p .paths) 1 1 (b .clock) (b .passed) (kept .carts)) h in
+        (
+          10_000 + c .to,
+          record {
+            leads = λ d. past-own (bounds p) 0 (added-numbered (added-bounds p b)) (record { number = 10_000 + c .to; direction = d }) (omega (arith, few)) ∙ q .leads d;
+          },
+        )
