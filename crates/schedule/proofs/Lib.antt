@@ -3,3 +3,4 @@ pub mod Quick
 pub mod Books
 pub mod Solutions
 pub mod Numbers
+pub mod Chains

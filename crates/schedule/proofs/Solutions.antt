@@ -114,7 +114,7 @@ module _ (p : Plan) (b : Book) (kept : KeptBook p b) where
 
   -- ---- times that fit meet every bound, so every arc allows them
 
-  bound-met : (t : Times) → Fits p b t → (c : Bound) → List·Memᴰ c (all-bounds p b) → Meets t c
+  pub bound-met : (t : Times) → Fits p b t → (c : Bound) → List·Memᴰ c (all-bounds p b) → Meets t c
   unfolding all-bounds
   bound-met t f c m = ⊎-elim (f .meets c) (λ a. ⊎-elim reported waiting (added-cases c a)) (List·Memᴰ·append-cases (bounds p) m)
     where
