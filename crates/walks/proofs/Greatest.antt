@@ -121,7 +121,7 @@ module _ (old : Sums) where
       subst (λ (o : Option ℤ). AtLeast o (w +ℤ a .adds)) (sym (getD-set-same new (a .to) _ none l))
       (greater-right (getD new (a .to) none) (brought a) (w +ℤ a .adds) (plus-least (getD old (a .from) none) w (a .adds) h))
 
-  raise-one-length : (new : Sums) (a : Arc) → length (raise old new a) ≡ length new
+  pub raise-one-length : (new : Sums) (a : Arc) → length (raise old new a) ≡ length new
   unfolding raise
   raise-one-length new a = length-set new _ _
 

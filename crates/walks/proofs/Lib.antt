@@ -6,3 +6,6 @@ pub mod Settling
 pub mod Least
 pub mod Cycle
 pub mod Range
+pub mod Search
+pub mod Orbit
+pub mod Outcome
