@@ -187,7 +187,7 @@ raise-all-reached arcs k old (t ∷ ts) new sub r q =
     raise-all-reached arcs k old ts (raise old new t) (λ a m. sub a (List·Memᴰ·tail m)) r
     (raise-reached arcs k old new t (sub t (List·Memᴰ·head refl)) r q)
 
-no-sum : (n v : ℕ) (x : ℤ) → getD (replicate n none) v none ≡ some x → ⊥
+pub no-sum : (n v : ℕ) (x : ℤ) → getD (replicate n none) v none ≡ some x → ⊥
 no-sum zero v x e = Option·none-ne-some _ e
 no-sum (suc n) zero x e = Option·none-ne-some _ e
 no-sum (suc n) (suc v) x e = no-sum n v x e

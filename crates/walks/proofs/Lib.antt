@@ -9,3 +9,4 @@ pub mod Range
 pub mod Search
 pub mod Orbit
 pub mod Outcome
+pub mod Parents
