@@ -21,10 +21,10 @@ pub record AtLeast (o : Option ℤ) (w : ℤ) : Type 0 where
   pub least : w ≤ℤ value
 
 -- what is at least w is so of the value itself
-least-of : (x w : ℤ) → AtLeast (some x) w → w ≤ℤ x
+pub least-of : (x w : ℤ) → AtLeast (some x) w → w ≤ℤ x
 least-of x w h = omega (signed, Option·some-injective _ _ (h .there), h .least)
 
-at-least : (x w : ℤ) → w ≤ℤ x → AtLeast (some x) w
+pub at-least : (x w : ℤ) → w ≤ℤ x → AtLeast (some x) w
 at-least x w h = record { value = x; there = refl; least = h }
 
 -- ---- the greater of two
@@ -50,7 +50,7 @@ greater-right (some x) (some y) w h = by (ltZ x y) refl (least-of y w h)
     by false e l = at-least x w (omega signed)
 
 -- it is one of the two
-one-of : (o q : Option ℤ) (x : ℤ) → greater o q ≡ some x → (o ≡ some x) ⊎ (q ≡ some x)
+pub one-of : (o q : Option ℤ) (x : ℤ) → greater o q ≡ some x → (o ≡ some x) ⊎ (q ≡ some x)
 unfolding greater
 one-of none q x e = inr e
 one-of (some a) none x e = inl e
@@ -67,13 +67,13 @@ unfolding plus
 plus-least none w a h = absurd (Option·none-ne-some _ (h .there))
 plus-least (some x) w a h = let l = least-of x w h in at-least (x +ℤ a) (w +ℤ a) (omega (signed, sum x a, sum w a))
 
-plus-from : (o : Option ℤ) (a x : ℤ) → plus o a ≡ some x → (w : ℤ) × (o ≡ some w) × (x ≡ w +ℤ a)
+pub plus-from : (o : Option ℤ) (a x : ℤ) → plus o a ≡ some x → (w : ℤ) × (o ≡ some w) × (x ≡ w +ℤ a)
 unfolding plus
 plus-from none a x e = absurd (Option·none-ne-some _ e)
 plus-from (some w) a x e = (w, refl, sym (Option·some-injective _ _ e))
 
 -- what stands at v after a store at i
-set-cases : {A : Type 0} (l : List A) (i : ℕ) (a : A) (v : ℕ) (d : A) → ((v ≡ i) × (getD (set l i a) v d ≡ a)) ⊎ (getD (set l i a) v d ≡ getD l v d)
+pub set-cases : {A : Type 0} (l : List A) (i : ℕ) (a : A) (v : ℕ) (d : A) → ((v ≡ i) × (getD (set l i a) v d ≡ a)) ⊎ (getD (set l i a) v d ≡ getD l v d)
 set-cases [] i a v d = inr refl
 set-cases (x ∷ xs) zero a zero d = inl (refl, refl)
 set-cases (x ∷ xs) zero a (suc v) d = inr refl
@@ -109,7 +109,7 @@ module _ (old : Sums) where
       (λ c. subst (λ (o : Option ℤ). AtLeast o w) (sym c) h)
       (set-cases new (a .to) (greater (getD new (a .to) none) (brought a)) v none)
 
-  raise-all-keeps : (as′ : List Arc) (new : Sums) (v : ℕ) (w : ℤ) → AtLeast (getD new v none) w → AtLeast (getD (raise-all as′ old new) v none) w
+  pub raise-all-keeps : (as′ : List Arc) (new : Sums) (v : ℕ) (w : ℤ) → AtLeast (getD new v none) w → AtLeast (getD (raise-all as′ old new) v none) w
   unfolding raise-all
   raise-all-keeps [] new v w h = h
   raise-all-keeps (a ∷ as′) new v w h = raise-all-keeps as′ (raise old new a) v w (raise-keeps new a v w h)
@@ -121,11 +121,11 @@ module _ (old : Sums) where
       subst (λ (o : Option ℤ). AtLeast o (w +ℤ a .adds)) (sym (getD-set-same new (a .to) _ none l))
       (greater-right (getD new (a .to) none) (brought a) (w +ℤ a .adds) (plus-least (getD old (a .from) none) w (a .adds) h))
 
-  raise-one-length : (new : Sums) (a : Arc) → length (raise old new a) ≡ length new
+  pub raise-one-length : (new : Sums) (a : Arc) → length (raise old new a) ≡ length new
   unfolding raise
   raise-one-length new a = length-set new _ _
 
-  raise-all-brings : (as′ : List Arc) (new : Sums) (a : Arc) (w : ℤ) → List·Memᴰ a as′ → a .to < length new
+  pub raise-all-brings : (as′ : List Arc) (new : Sums) (a : Arc) (w : ℤ) → List·Memᴰ a as′ → a .to < length new
       → AtLeast (getD old (a .from) none) w
       → AtLeast (getD (raise-all as′ old new) (a .to) none) (w +ℤ a .adds)
   unfolding raise-all
@@ -187,7 +187,7 @@ raise-all-reached arcs k old (t ∷ ts) new sub r q =
     raise-all-reached arcs k old ts (raise old new t) (λ a m. sub a (List·Memᴰ·tail m)) r
     (raise-reached arcs k old new t (sub t (List·Memᴰ·head refl)) r q)
 
-no-sum : (n v : ℕ) (x : ℤ) → getD (replicate n none) v none ≡ some x → ⊥
+pub no-sum : (n v : ℕ) (x : ℤ) → getD (replicate n none) v none ≡ some x → ⊥
 no-sum zero v x e = Option·none-ne-some _ e
 no-sum (suc n) zero x e = Option·none-ne-some _ e
 no-sum (suc n) (suc v) x e = no-sum n v x e

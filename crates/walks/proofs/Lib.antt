@@ -2,3 +2,11 @@ pub mod Rows
 pub mod Quick
 pub mod Greatest
 pub mod PassNumber
+pub mod Settling
+pub mod Least
+pub mod Cycle
+pub mod Range
+pub mod Search
+pub mod Orbit
+pub mod Outcome
+pub mod Parents

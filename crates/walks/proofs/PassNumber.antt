@@ -38,7 +38,7 @@ same-sum-refl none = tt
 same-sum-refl (some (pos a)) = eqb-refl a
 same-sum-refl (some (negsuc a)) = eqb-refl a
 
-agree-eq : (xs ys : Sums) → T (agree xs ys) → xs ≡ ys
+pub agree-eq : (xs ys : Sums) → T (agree xs ys) → xs ≡ ys
 unfolding agree
 agree-eq [] [] t = refl
 agree-eq [] (y ∷ ys) t = absurd t
@@ -47,7 +47,7 @@ agree-eq (x ∷ xs) (y ∷ ys) t =
     let both = and-yes (same-sum x y) (agree xs ys) t in
     ap₂ _∷_ (same-sum-eq x y (both .0)) (agree-eq xs ys (both .1))
 
-agree-refl : (xs : Sums) → T (agree xs xs)
+pub agree-refl : (xs : Sums) → T (agree xs xs)
 unfolding agree
 agree-refl [] = tt
 agree-refl (x ∷ xs) = yes-and (same-sum x x) (agree xs xs) (same-sum-refl x) (agree-refl xs)
@@ -56,15 +56,15 @@ agree-refl (x ∷ xs) = yes-and (same-sum x x) (agree xs xs) (same-sum-refl x) (
 
 module _ (arcs : List Arc) (n : ℕ) where
   -- the sums after k passes and after k + 1 are the same
-  abbrev still : ℕ → Bool
+  abbrev pub still : ℕ → Bool
   still k = agree (sums arcs n k) (sums arcs n (suc k))
 
-  record First (k j f : ℕ) : Type 0 where
-    agrees : T (still j)
-    before : (i : ℕ) → k ≤ i → i < j → ¬ T (still i)
-    below : j < k + f
+  pub record First (k j f : ℕ) : Type 0 where
+    pub agrees : T (still j)
+    pub before : (i : ℕ) → k ≤ i → i < j → ¬ T (still i)
+    pub below : j < k + f
 
-  first-is : (f k j : ℕ) → first-agreeing arcs n f k ≡ some j → First k j f
+  pub first-is : (f k j : ℕ) → first-agreeing arcs n f k ≡ some j → First k j f
   unfolding first-agreeing
   first-is zero k j e = absurd (Option·none-ne-some _ e)
   first-is (suc f) k j e = by (still k) refl (first-is f (suc k) j) e

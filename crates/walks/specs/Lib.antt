@@ -1,3 +1,4 @@
 pub mod Walks
 pub mod Passes
 pub mod Solutions
+pub mod Parents

@@ -1,0 +1,67 @@
+-- A function of the numbers below n, applied n times, lands on a cycle.
+-- Assumes nothing.
+use mathlib.Core.Path.{_≡_, sym, ap, _∙_, subst}
+use mathlib.Core.Logic.{_≢_, by-cases}
+use Prim.Native.Nat.{ℕ, zero, suc, _+_, _-_, _≤_, _<_}
+use native.Mathlib.Nat.{zero-add, suc-add}
+use native.Mathlib.Decide.{ℕ-discrete, decLt}
+use native.Mathlib.Omega.{arith}
+use Rattle.walks.specs.Parents.{times, Cyclic}
+use Rattle.walks.proofs.Search.{First, found, nowhere, first, Twice, pigeon}
+
+module _ (g : ℕ → ℕ) where
+  pub times-add : (a b v : ℕ) → times g (a + b) v ≡ times g b (times g a v)
+  unfolding times
+  times-add zero b v = rw zero-add
+  times-add (suc a) b v = rw suc-add (times-add a b (g v))
+
+  first-return : (b x p : ℕ) → 0 < p → p ≤ b → times g p x ≡ x → Cyclic g b x
+  first-return b x p h k e = go (first (λ i. times g (suc i) x ≡ x) (λ i. ℕ-discrete (times g (suc i) x) x) p)
+    where
+      apart : (q : ℕ) → times g (suc q) x ≡ x → ((i : ℕ) → i < q → ¬ (times g (suc i) x ≡ x)) → (i j : ℕ) → i < j → j < suc q → times g i x ≢ times g j x
+      apart q c l i j a b d =
+          let s : suc (i + (q - j)) ≡ i + suc (q - j) = omega arith in
+          let u : j + suc (q - j) ≡ suc q = omega arith in
+          l (i + (q - j)) (omega arith) (ap (λ m. times g m x) s ∙ times-add i (suc (q - j)) x ∙ ap (times g (suc (q - j))) d
+          ∙ sym (times-add j (suc (q - j)) x) ∙ ap (λ m. times g m x) u ∙ c)
+
+      go : First (λ i. times g (suc i) x ≡ x) p → Cyclic g b x
+      go (found q d c l) = record { period = suc q; positive = omega arith; short = omega arith; closes = c; simple = apart q c l }
+      go (nowhere n) =
+          let s : suc (p - 1) ≡ p = omega arith in
+          absurd (n (p - 1) (omega arith) (ap (λ m. times g m x) s ∙ e))
+
+  module _ (n v : ℕ) (inside : (u : ℕ) → u < n → g u < n) (low : v < n) where
+    stay : (j u : ℕ) → u < n → times g j u < n
+    unfolding times
+    stay zero u h = h
+    stay (suc j) u h = stay j (g u) (inside u h)
+
+    twice : Twice (λ j. times g j v) n
+    twice = pigeon n (λ j. times g j v) (λ j _. stay j v low)
+
+    again : (t : Twice (λ j. times g j v) n) (c : ℕ) → times g (t .low + c) v ≡ times g (t .high + c) v
+    again t c = times-add (t .low) c v ∙ ap (times g c) (t .equal) ∙ sym (times-add (t .high) c v)
+
+    -- n steps on, on the cycle
+    pub lands : Cyclic g n (times g n v)
+    lands = go twice
+      where
+        go : Twice (λ j. times g j v) n → Cyclic g n (times g n v)
+        go t =
+            let p : ℕ = t .high - t .low in
+            let a : n + p ≡ t .high + (n - t .low) = omega arith in
+            let b : t .low + (n - t .low) ≡ n = omega arith in
+            first-return n (times g n v) p (omega arith) (omega arith)
+            (sym (times-add n p v) ∙ ap (λ m. times g m v) a ∙ sym (again t (n - t .low)) ∙ ap (λ m. times g m v) b)
+
+    -- what holds for n steps holds for ever
+    pub forever : (Q : ℕ → Type 0) → ((j : ℕ) → j < n → Q (times g j v)) → (j : ℕ) → Q (times g j v)
+    forever Q h j = upto twice j j (omega arith)
+      where
+        upto : Twice (λ j. times g j v) n → (m j : ℕ) → j ≤ m → Q (times g j v)
+        upto t zero j b = h j (omega arith)
+        upto t (suc m) j b = by-cases (decLt j n) (λ a. h j a) (λ a.
+            let c : ℕ = j - t .high in
+            let e : t .high + c ≡ j = omega arith in
+            subst Q (again t c ∙ ap (λ m. times g m v) e) (upto t m (t .low + c) (omega arith)))
