@@ -1,0 +1,154 @@
+-- A plan slice holds the tables and the log that were written to it, and a slice that holds a plan is one that was so written. Assumes nothing.
+use Prim.Native.Nat.{ℕ, zero, suc, _+_, _*_, _-_, _^_, _≤_, _<_}
+use native.Mathlib.Omega.{arith}
+use mathlib.Core.Path.{_≡_, refl, ap, ap₂, sym, _∙_, subst}
+use mathlib.Core.Logic.{_≢_}
+use mathlib.Core.Bool.{Bool, true, false}
+use mathlib.Core.List.{List, [], _∷_, _++_, map, append-assoc, List·Memᴰ, List·Memᴰ·head, List·Memᴰ·tail}
+use mathlib.Core.Option.{Option, none, some, Option·none-ne-some, Option·some-injective}
+use lib.Dec.{T, eqb, eqb→eq}
+use lib.ListN.{length, take, drop, replicate, length-append, length-replicate, length-map}
+use lib.Seq.{take-at, drop-at, drop-drop, take-all}
+use Rattle.words.specs.Words.{little, word, words}
+use Rattle.words.proofs.Reading.{word-length, words-length, little-word}
+use Rattle.csv.specs.Text.{same}
+use Rattle.csv.proofs.Text.{same-equal, same-self}
+use Rattle.csv.proofs.Bytes.{NoZero}
+use Rattle.floor.specs.Refusal.{Judged, refused, accepted}
+use Rattle.floor.specs.Plan.{Plan}
+use Rattle.floor.specs.Tables.{Tables}
+use Rattle.network.specs.Judge.{judge}
+use Rattle.schedule.specs.Book.{Report, Book, first-book, replay}
+use Rattle.hegtalim.specs.PlanSlice.{plan-need, padded, plan-slice, until-zero, tables-in, entries, log-in, Held, nothing-else, held-by, held}
+
+-- ---- padding
+
+-- what fits is padded to just its size
+padded-length : (m : ℕ) (l : List ℕ) → length l ≤ m → length (padded m l) ≡ m
+unfolding padded
+padded-length m l h = omega (arith, length-append l (replicate (m - length l) 0), length-replicate {A = ℕ} (m - length l) 0)
+
+-- and what does not is no shorter than it
+padded-at-least : (m : ℕ) (l : List ℕ) → (m ≤ length (padded m l)) × (length l ≤ length (padded m l))
+unfolding padded
+padded-at-least m l =
+    let e : length (l ++ replicate (m - length l) 0) ≡ length l + (m - length l) =
+    length-append l (replicate (m - length l) 0) ∙ ap (λ (x : ℕ). length l + x) (length-replicate (m - length l) 0)
+    in
+    (omega (arith, e), omega (arith, e))
+
+-- zeros end at once
+until-zero-zeros : (k : ℕ) → until-zero (replicate k 0) ≡ []
+unfolding until-zero
+until-zero-zeros zero = refl
+until-zero-zeros (suc k) = refl
+
+-- bytes other than zero, and zeros after them
+until-zero-stops : (l : List ℕ) (k : ℕ) → NoZero l → until-zero (l ++ replicate k 0) ≡ l
+unfolding until-zero
+until-zero-stops [] k n = until-zero-zeros k
+until-zero-stops (b ∷ bs) k n = by (eqb b 0) refl (until-zero-stops bs k (n .1))
+  where
+    by : (t : Bool) → eqb b 0 ≡ t → until-zero (bs ++ replicate k 0) ≡ bs → elim t [ true ↦ [] | false ↦ b ∷ until-zero (bs ++ replicate k 0) ] ≡ b ∷ bs
+    by true e more = absurd (n .0 (eqb→eq b 0 (subst T (sym e) tt)))
+    by false e more = ap (λ (x : List ℕ). b ∷ x) more
+
+-- bytes other than zero, padded and with more after them, are read back
+pub until-zero-padded : (m : ℕ) (l rest : List ℕ) → NoZero l → length l ≤ m → until-zero (take m (padded m l ++ rest)) ≡ l
+unfolding padded
+until-zero-padded m l rest n h =
+    ap until-zero (take-at (padded m l) rest m (padded-length m l h)) ∙ until-zero-stops l (m - length l) n
+
+-- ---- the five parts of a slice, of sizes m, m, m, k and w, and zeros after them
+
+-- the five parts in a row, and what follows them
+spread : (a b c d e z : List ℕ) → (a ++ (b ++ (c ++ (d ++ e)))) ++ z ≡ a ++ (b ++ (c ++ (d ++ (e ++ z))))
+spread a b c d e z =
+    append-assoc a (b ++ (c ++ (d ++ e))) z
+    ∙ ap (λ (x : List ℕ). a ++ x) (append-assoc b (c ++ (d ++ e)) z
+    ∙ ap (λ (x : List ℕ). b ++ x) (append-assoc c (d ++ e) z ∙ ap (λ (x : List ℕ). c ++ x) (append-assoc d e z)))
+
+-- past a part of i places and j more
+drop-over : (a y : List ℕ) (i j : ℕ) → length a ≡ i → drop (i + j) (a ++ y) ≡ drop j y
+drop-over a y i j e = sym (drop-drop j i (a ++ y)) ∙ ap (drop j) (drop-at a y i e)
+
+module _ (m k w n : ℕ) (r c p cs ts : List ℕ) where
+  -- the parts, each padded
+  abbrev parts : List ℕ
+  parts = padded m r ++ (padded m c ++ (padded m p ++ (padded k cs ++ padded w ts)))
+
+  -- the zeros after them
+  abbrev zeros : List ℕ
+  zeros = replicate (n - length parts) 0
+
+  -- they are no shorter than their sizes together
+  parts-at-least : m + (m + (m + (k + w))) ≤ length (padded n parts)
+  parts-at-least =
+      let l3 : List ℕ = padded k cs ++ padded w ts in
+      let l2 : List ℕ = padded m p ++ l3 in
+      let l1 : List ℕ = padded m c ++ l2 in
+      omega (
+        arith, padded-at-least n parts .1, length-append (padded m r) l1, length-append (padded m c) l2, length-append (padded m p) l3,
+        length-append (padded k cs) (padded w ts), padded-at-least m r .0, padded-at-least m c .0, padded-at-least m p .0, padded-at-least k cs .0,
+        padded-at-least w ts .0,
+      )
+
+  module _ (fr : length r ≤ m) (fc : length c ≤ m) (fp : length p ≤ m) (fk : length cs ≤ k) where
+    -- parts that fit fill just their sizes, and zeros the rest
+    parts-length : length ts ≤ w → m + (m + (m + (k + w))) ≤ n → length (padded n parts) ≡ n
+    parts-length fw h =
+        let l3 : List ℕ = padded k cs ++ padded w ts in
+        let l2 : List ℕ = padded m p ++ l3 in
+        let l1 : List ℕ = padded m c ++ l2 in
+        padded-length n parts (omega (
+          arith, length-append (padded m r) l1, length-append (padded m c) l2, length-append (padded m p) l3,
+          length-append (padded k cs) (padded w ts), padded-length m r fr, padded-length m c fc, padded-length m p fp, padded-length k cs fk,
+          padded-length w ts fw, h,
+        ))
+
+    in-a-row : padded n parts ≡ padded m r ++ (padded m c ++ (padded m p ++ (padded k cs ++ (padded w ts ++ zeros))))
+    unfolding padded
+    in-a-row = spread (padded m r) (padded m c) (padded m p) (padded k cs) (padded w ts) zeros
+
+    -- the first part is read back
+    first-back : NoZero r → until-zero (take m (padded n parts)) ≡ r
+    first-back z =
+        ap (λ (x : List ℕ). until-zero (take m x)) in-a-row
+        ∙ until-zero-padded m r (padded m c ++ (padded m p ++ (padded k cs ++ (padded w ts ++ zeros)))) z fr
+
+    -- and the second
+    second-back : NoZero c → until-zero (take m (drop m (padded n parts))) ≡ c
+    second-back z =
+        let rest : List ℕ = padded m p ++ (padded k cs ++ (padded w ts ++ zeros)) in
+        ap (λ (x : List ℕ). until-zero (take m x)) (ap (drop m) in-a-row ∙ drop-at (padded m r) (padded m c ++ rest) m (padded-length m r fr))
+        ∙ until-zero-padded m c rest z fc
+
+    -- past the first two
+    past-two : (j : ℕ) → drop (m + (m + j)) (padded n parts) ≡ drop j (padded m p ++ (padded k cs ++ (padded w ts ++ zeros)))
+    past-two j =
+        let rest : List ℕ = padded m p ++ (padded k cs ++ (padded w ts ++ zeros)) in
+        ap (drop (m + (m + j))) in-a-row
+        ∙ drop-over (padded m r) (padded m c ++ rest) m (m + j) (padded-length m r fr)
+        ∙ drop-over (padded m c) rest m j (padded-length m c fc)
+
+    -- the third
+    third-back : (i : ℕ) → i ≡ m + (m + 0) → NoZero p → until-zero (take m (drop i (padded n parts))) ≡ p
+    third-back i e z =
+        ap (λ (x : List ℕ). until-zero (take m x)) (ap (λ (x : ℕ). drop x (padded n parts)) e ∙ past-two 0)
+        ∙ until-zero-padded m p (padded k cs ++ (padded w ts ++ zeros)) z fp
+
+    -- the fourth
+    fourth-back : (i : ℕ) → i ≡ m + (m + m) → NoZero cs → until-zero (take k (drop i (padded n parts))) ≡ cs
+    fourth-back i e z =
+        let rest : List ℕ = padded k cs ++ (padded w ts ++ zeros) in
+        ap (λ (x : List ℕ). until-zero (take k x)) (ap (λ (x : ℕ). drop x (padded n parts)) e ∙ past-two m ∙ drop-at (padded m p) rest m (padded-length m p fp))
+        ∙ until-zero-padded k cs (padded w ts ++ zeros) z fk
+
+    -- and the fifth stands after them
+    fifth-there : (i : ℕ) → i ≡ m + (m + (m + k)) → drop i (padded n parts) ≡ ts ++ (replicate (w - length ts) 0 ++ zeros)
+    unfolding padded
+    fifth-there i e =
+        ap (λ (x : ℕ). drop x (padded n parts)) e ∙ past-two (m + k)
+        ∙ drop-over (padded m p) (padded k cs ++ (padded w ts ++ zeros)) m k (padded-length m p fp)
+        ∙ drop-at (padded k cs) (padded w ts ++ zeros) k (padded-length k cs fk)
+        ∙ append-assoc ts (replicate (w - length ts) 0) zeros
