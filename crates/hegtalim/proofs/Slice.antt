@@ -152,3 +152,104 @@ module _ (m k w n : ℕ) (r c p cs ts : List ℕ) where
         ∙ drop-over (padded m p) (padded k cs ++ (padded w ts ++ zeros)) m k (padded-length m p fp)
         ∙ drop-at (padded k cs) (padded w ts ++ zeros) k (padded-length k cs fk)
         ∙ append-assoc ts (replicate (w - length ts) 0) zeros
+
+-- ---- the tables and the log of a plan slice
+
+-- tables that a slice holds as they are: within its places for a table, and without a zero byte
+pub record TablesFit (ts : Tables) : Type 0 where
+  pub roads-short : length (ts .roads) ≤ 65_536
+  pub carts-short : length (ts .carts) ≤ 65_536
+  pub paths-short : length (ts .paths) ≤ 65_536
+  pub roads-nonzero : NoZero (ts .roads)
+  pub carts-nonzero : NoZero (ts .carts)
+  pub paths-nonzero : NoZero (ts .paths)
+
+-- a log that a slice holds as it is: within its places for entries, no cart 0, and times of eight bytes
+pub record LogFits (log : List Report) : Type 0 where
+  pub short : length log ≤ 4096
+  pub carts-from-1 : (r : Report) → List·Memᴰ r log → 1 ≤ r .cart
+  pub times-short : (r : Report) → List·Memᴰ r log → r .time < 256 ^ 8
+
+-- the carts of a log, and its times
+abbrev carts-of : List Report → List ℕ
+carts-of log = map (λ (r : Report). r .cart) log
+
+abbrev times-of : List Report → List ℕ
+times-of log = map (λ (r : Report). r .time) log
+
+-- carts count from 1, so none is a zero byte
+carts-nonzero : (log : List Report) → ((r : Report) → List·Memᴰ r log → 1 ≤ r .cart) → NoZero (carts-of log)
+carts-nonzero [] h = tt
+carts-nonzero (r ∷ log) h =
+    let one : 1 ≤ r .cart = h r (List·Memᴰ·head refl) in
+    (λ e. omega (arith, one, e), carts-nonzero log (λ x i. h x (List·Memᴰ·tail i)))
+
+-- one entry: its time is in the first eight bytes, and the others' times after them
+one-entry : (t : ℕ) (ts rest : List ℕ) → t < 256 ^ 8
+    → (little (take 8 (words 8 (t ∷ ts) ++ rest)) ≡ t) × (drop 8 (words 8 (t ∷ ts) ++ rest) ≡ words 8 ts ++ rest)
+unfolding words
+one-entry t ts rest h =
+    let e : (word 8 t ++ words 8 ts) ++ rest ≡ word 8 t ++ (words 8 ts ++ rest) = append-assoc (word 8 t) (words 8 ts) rest in (
+      ap little (ap (take 8) e ∙ take-at (word 8 t) (words 8 ts ++ rest) 8 (word-length 8 t)) ∙ little-word 8 t h,
+      ap (drop 8) e ∙ drop-at (word 8 t) (words 8 ts ++ rest) 8 (word-length 8 t),
+    )
+
+-- the entries of a log's carts and times are the log
+entries-back : (log : List Report) (rest : List ℕ) → ((r : Report) → List·Memᴰ r log → r .time < 256 ^ 8)
+    → entries (carts-of log) (words 8 (times-of log) ++ rest) ≡ log
+unfolding entries
+entries-back [] rest h = refl
+entries-back (r ∷ log) rest h =
+    let (now, later) = one-entry (r .time) (times-of log) rest (h r (List·Memᴰ·head refl)) in
+    ap₂ {C = List Report} (λ (t : ℕ) (x : List ℕ). record { cart = r .cart; time = t } ∷ entries (carts-of log) x) now later
+    ∙ ap (λ (x : List Report). r ∷ x) (entries-back log rest (λ x i. h x (List·Memᴰ·tail i)))
+
+-- tables with the bytes of some tables are those
+same-tables : (r c p : List ℕ) (ts : Tables) → r ≡ ts .roads → c ≡ ts .carts → p ≡ ts .paths → record { roads = r; carts = c; paths = p } ≡ ts
+same-tables r c p ts er ec ep =
+    ap (λ (x : List ℕ). record { roads = x; carts = c; paths = p }) er
+    ∙ ap (λ (x : List ℕ). record { roads = ts .roads; carts = x; paths = p }) ec
+    ∙ ap (λ (x : List ℕ). record { roads = ts .roads; carts = ts .carts; paths = x }) ep
+
+module _ (n : ℕ) (ts : Tables) (log : List Report) where
+  -- a plan slice is never shorter than the need
+  pub slice-at-least : plan-need ≤ length (plan-slice n ts log)
+  unfolding plan-slice
+  slice-at-least =
+      omega (arith, parts-at-least 65_536 4096 32_768 n (ts .roads) (ts .carts) (ts .paths) (carts-of log) (words 8 (times-of log)))
+
+  module _ (tf : TablesFit ts) (lf : LogFits log) where
+    -- as many carts as entries
+    carts-short : length (carts-of log) ≤ 4096
+    carts-short = omega (arith, length-map log (λ (r : Report). r .cart), lf .short)
+
+    -- and eight bytes of time each
+    times-short : length (words 8 (times-of log)) ≤ 32_768
+    times-short = omega (arith, words-length 8 (times-of log), length-map log (λ (r : Report). r .time), lf .short)
+
+    -- a plan slice has as many places as the slice it is written over
+    pub plan-slice-length : plan-need ≤ n → length (plan-slice n ts log) ≡ n
+    unfolding plan-slice
+    plan-slice-length h =
+        parts-length 65_536 4096 32_768 n (ts .roads) (ts .carts) (ts .paths) (carts-of log) (words 8 (times-of log))
+        (tf .roads-short) (tf .carts-short) (tf .paths-short) carts-short times-short (omega (arith, h))
+
+    -- the tables in it are those written
+    pub tables-back : tables-in (plan-slice n ts log) ≡ ts
+    unfolding plan-slice tables-in
+    tables-back =
+        let ws : List ℕ = words 8 (times-of log) in
+        same-tables _ _ _ ts
+        (first-back 65_536 4096 32_768 n (ts .roads) (ts .carts) (ts .paths) (carts-of log) ws (tf .roads-short) (tf .carts-short) (tf .paths-short) carts-short (tf .roads-nonzero))
+        (second-back 65_536 4096 32_768 n (ts .roads) (ts .carts) (ts .paths) (carts-of log) ws (tf .roads-short) (tf .carts-short) (tf .paths-short) carts-short (tf .carts-nonzero))
+        (third-back 65_536 4096 32_768 n (ts .roads) (ts .carts) (ts .paths) (carts-of log) ws (tf .roads-short) (tf .carts-short) (tf .paths-short) carts-short 131_072 refl (tf .paths-nonzero))
+
+    -- and so is the log
+    pub log-back : log-in (plan-slice n ts log) ≡ log
+    unfolding plan-slice log-in
+    log-back =
+        let ws : List ℕ = words 8 (times-of log) in
+        ap₂ entries
+        (fourth-back 65_536 4096 32_768 n (ts .roads) (ts .carts) (ts .paths) (carts-of log) ws (tf .roads-short) (tf .carts-short) (tf .paths-short) carts-short 196_608 refl (carts-nonzero log (lf .carts-from-1)))
+        (fifth-there 65_536 4096 32_768 n (ts .roads) (ts .carts) (ts .paths) (carts-of log) ws (tf .roads-short) (tf .carts-short) (tf .paths-short) carts-short 200_704 refl)
+        ∙ entries-back log _ (lf .times-short)
