@@ -88,8 +88,16 @@ module _ (m k w n : ℕ) (r c p cs ts : List ℕ) where
       let l2 : List ℕ = padded m p ++ l3 in
       let l1 : List ℕ = padded m c ++ l2 in
       omega (
-        arith, padded-at-least n parts .1, length-append (padded m r) l1, length-append (padded m c) l2, length-append (padded m p) l3,
-        length-append (padded k cs) (padded w ts), padded-at-least m r .0, padded-at-least m c .0, padded-at-least m p .0, padded-at-least k cs .0,
+        arith,
+        padded-at-least n parts .1,
+        length-append (padded m r) l1,
+        length-append (padded m c) l2,
+        length-append (padded m p) l3,
+        length-append (padded k cs) (padded w ts),
+        padded-at-least m r .0,
+        padded-at-least m c .0,
+        padded-at-least m p .0,
+        padded-at-least k cs .0,
         padded-at-least w ts .0,
       )
 
@@ -101,9 +109,17 @@ module _ (m k w n : ℕ) (r c p cs ts : List ℕ) where
         let l2 : List ℕ = padded m p ++ l3 in
         let l1 : List ℕ = padded m c ++ l2 in
         padded-length n parts (omega (
-          arith, length-append (padded m r) l1, length-append (padded m c) l2, length-append (padded m p) l3,
-          length-append (padded k cs) (padded w ts), padded-length m r fr, padded-length m c fc, padded-length m p fp, padded-length k cs fk,
-          padded-length w ts fw, h,
+          arith,
+          length-append (padded m r) l1,
+          length-append (padded m c) l2,
+          length-append (padded m p) l3,
+          length-append (padded k cs) (padded w ts),
+          padded-length m r fr,
+          padded-length m c fc,
+          padded-length m p fp,
+          padded-length k cs fk,
+          padded-length w ts fw,
+          h,
         ))
 
     in-a-row : padded n parts ≡ padded m r ++ (padded m c ++ (padded m p ++ (padded k cs ++ (padded w ts ++ zeros))))
@@ -253,3 +269,74 @@ module _ (n : ℕ) (ts : Tables) (log : List Report) where
         (fourth-back 65_536 4096 32_768 n (ts .roads) (ts .carts) (ts .paths) (carts-of log) ws (tf .roads-short) (tf .carts-short) (tf .paths-short) carts-short 196_608 refl (carts-nonzero log (lf .carts-from-1)))
         (fifth-there 65_536 4096 32_768 n (ts .roads) (ts .carts) (ts .paths) (carts-of log) ws (tf .roads-short) (tf .carts-short) (tf .paths-short) carts-short 200_704 refl)
         ∙ entries-back log _ (lf .times-short)
+
+-- ---- what a slice holds
+
+-- a test that passes is true
+passes : (b : Bool) → T b → b ≡ true
+passes true t = refl
+passes false t = absurd t
+
+-- a plan slice holds its tables and log, and nothing else
+nothing-else-in : (n : ℕ) (ts : Tables) (log : List Report) → length (plan-slice n ts log) ≡ n → nothing-else (plan-slice n ts log) ts log ≡ true
+unfolding nothing-else
+nothing-else-in n ts log e =
+    ap (λ (x : ℕ). same (plan-slice x ts log) (plan-slice n ts log)) e ∙ passes (same (plan-slice n ts log) (plan-slice n ts log)) (same-self (plan-slice n ts log))
+
+-- what is held where the tables are accepted, the log is replayed and there is nothing else
+held-where : (s : List ℕ) (ts : Tables) (log : List Report) (p : Plan) (b : Book)
+    → replay p (first-book p) log ≡ some b → nothing-else s ts log ≡ true
+    → held-by s ts log (accepted p) ≡ some (record { tables = ts; log = log; plan = p; book = b })
+unfolding held-by
+held-where s ts log p b e f =
+    let found : Book → Held = λ x. record { tables = ts; log = log; plan = p; book = x } in
+    ap (λ (o : Option Book). elim o [ none ↦ none | some x ↦ elim (nothing-else s ts log) [ true ↦ some (found x) | false ↦ none ] ]) e
+    ∙ ap (λ (t : Bool). elim t [ true ↦ some (found b) | false ↦ none ]) f
+
+-- a plan slice of an accepted load, and of a log that is replayed, holds these
+pub held-slice-fits : (n : ℕ) (ts : Tables) (p : Plan) (log : List Report) (b : Book) → plan-need ≤ n → TablesFit ts → LogFits log
+    → judge ts ≡ accepted p → replay p (first-book p) log ≡ some b
+    → held (plan-slice n ts log) ≡ some (record { tables = ts; log = log; plan = p; book = b })
+unfolding held
+held-slice-fits n ts p log b h tf lf ej er =
+    let s : List ℕ = plan-slice n ts log in
+    ap₂ (λ (x : Tables) (l : List Report). held-by s x l (judge x)) (tables-back n ts log tf lf) (log-back n ts log tf lf)
+    ∙ ap (held-by s ts log) ej
+    ∙ held-where s ts log p b er (nothing-else-in n ts log (plan-slice-length n ts log tf lf h))
+
+-- the slice has the need, the tables are accepted, the log is replayed, and the slice is what these are written as
+abbrev pub Says : List ℕ → Held → Type 0
+Says s h =
+    (plan-need ≤ length s) × (judge (h .tables) ≡ accepted (h .plan)) × (replay (h .plan) (first-book (h .plan)) (h .log) ≡ some (h .book))
+    × (s ≡ plan-slice (length s) (h .tables) (h .log))
+
+-- a slice equal to some plan slice is no shorter than the need
+long-by : (s : List ℕ) (n : ℕ) (ts : Tables) (log : List Report) → s ≡ plan-slice n ts log → plan-need ≤ length s
+long-by s n ts log e = subst (λ (x : List ℕ). plan-need ≤ length x) (sym e) (slice-at-least n ts log)
+
+-- the same, of tables and a log that stand for themselves
+held-by-says : (s : List ℕ) (ts : Tables) (log : List Report) (j : Judged Plan) (h : Held) → judge ts ≡ j → held-by s ts log j ≡ some h → Says s h
+unfolding held-by nothing-else
+held-by-says s ts log (refused r) h ej e = absurd (Option·none-ne-some _ e)
+held-by-says s ts log (accepted p) h ej e = by (replay p (first-book p) log) refl e
+  where
+    whole : (b : Book) → replay p (first-book p) log ≡ some b → (t : Bool) → nothing-else s ts log ≡ t
+        → elim t [ true ↦ some (record { tables = ts; log = log; plan = p; book = b }) | false ↦ none ] ≡ some h → Says s h
+    whole b er true en e =
+        let w : s ≡ plan-slice (length s) ts log = sym (same-equal (plan-slice (length s) ts log) s (subst T (sym en) tt)) in
+        subst (Says s) (Option·some-injective _ _ e) (long-by s (length s) ts log w, ej, er, w)
+    whole b er false en e = absurd (Option·none-ne-some _ e)
+
+    by : (o : Option Book) → replay p (first-book p) log ≡ o
+        → elim o [
+          | none ↦ none
+          | some b ↦ elim (nothing-else s ts log) [ true ↦ some (record { tables = ts; log = log; plan = p; book = b }) | false ↦ none ]
+        ] ≡ some h
+        → Says s h
+    by none er e = absurd (Option·none-ne-some _ e)
+    by (some b) er e = whole b er (nothing-else s ts log) refl e
+
+-- that is what a slice that holds a plan says
+pub held-says : (s : List ℕ) (h : Held) → held s ≡ some h → Says s h
+unfolding held
+held-says s h e = held-by-says s (tables-in s) (log-in s) (judge (tables-in s)) h refl e
