@@ -1,14 +1,13 @@
 -- A plan slice holds the tables and the log that were written to it, and a slice that holds a plan is one that was so written. Assumes nothing.
-use Prim.Native.Nat.{ℕ, zero, suc, _+_, _*_, _-_, _^_, _≤_, _<_}
+use Prim.Native.Nat.{ℕ, zero, suc, _+_, _-_, _^_, _≤_, _<_}
 use native.Mathlib.Omega.{arith}
 use mathlib.Core.Path.{_≡_, refl, ap, ap₂, sym, _∙_, subst}
-use mathlib.Core.Logic.{_≢_}
 use mathlib.Core.Bool.{Bool, true, false}
 use mathlib.Core.List.{List, [], _∷_, _++_, map, append-assoc, List·Memᴰ, List·Memᴰ·head, List·Memᴰ·tail}
 use mathlib.Core.Option.{Option, none, some, Option·none-ne-some, Option·some-injective}
 use lib.Dec.{T, eqb, eqb→eq}
 use lib.ListN.{length, take, drop, replicate, length-append, length-replicate, length-map}
-use lib.Seq.{take-at, drop-at, drop-drop, take-all}
+use lib.Seq.{take-at, drop-at, drop-drop}
 use Rattle.words.specs.Words.{little, word, words}
 use Rattle.words.proofs.Reading.{word-length, words-length, little-word}
 use Rattle.csv.specs.Text.{same}

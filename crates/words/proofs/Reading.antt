@@ -1,12 +1,12 @@
 -- A number read from where it was written is that number, and what is written over a slice's front stands there. Assumes nothing.
-use Prim.Native.Nat.{ℕ, zero, suc, _+_, _*_, _/_, _%_, _^_, _<_, _≤_}
+use Prim.Native.Nat.{ℕ, zero, suc, _+_, _*_, _/_, _%_, _^_, _<_}
 use native.Mathlib.Nat.{pow-succ', mod-add-div, div-lt-iff-lt-mul, mul-comm, mul-zero, mul-suc, not-suc-le-zero, le-of-suc-le-suc}
 use native.Mathlib.Omega.{arith}
 use mathlib.Core.Path.{_≡_, refl, ap, sym, _∙_, subst}
 use mathlib.Core.List.{List, [], _∷_, _++_, append-assoc}
 use lib.Dec.{lit<}
 use lib.ListN.{length, take, drop, getD, length-append}
-use lib.Seq.{take-append-seam, take-at, drop-at, drop-append-add}
+use lib.Seq.{take-append-seam, take-at, drop-append-add}
 use Rattle.words.specs.Words.{little, word, words, word-at, written}
 
 -- a word has its count of bytes
