@@ -1,2 +1,4 @@
 pub mod Rows
 pub mod Records
+pub mod Text
+pub mod Bytes
