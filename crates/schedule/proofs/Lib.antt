@@ -4,3 +4,4 @@ pub mod Books
 pub mod Solutions
 pub mod Numbers
 pub mod Chains
+pub mod Logged

@@ -100,7 +100,7 @@ tail-member (y ∷ ys) x m = List·Memᴰ·tail m
 
 module _ (p : Plan) (b : Book) (kept : KeptBook p b) where
   -- an added bound is that of a point reported or of a point still to be passed
-  added-cases : (c : Bound) → List·Memᴰ c (added-bounds p b)
+  pub added-cases : (c : Bound) → List·Memᴰ c (added-bounds p b)
       → ((x : Passed) × List·Memᴰ x (passed-points p b) × (c ≡ reported-bound x)) ⊎ ((e : ℕ) × List·Memᴰ e (points-to-pass p b) × (c ≡ clock-bound (b .clock) e))
   unfolding added-bounds route-added passed-points points-to-pass
   added-cases c m =
