@@ -10,3 +10,4 @@ pub mod Search
 pub mod Orbit
 pub mod Outcome
 pub mod Parents
+pub mod Trap
