@@ -11,3 +11,4 @@ pub mod Orbit
 pub mod Outcome
 pub mod Parents
 pub mod Trap
+pub mod Unsettled
