@@ -10,3 +10,5 @@ pub mod Search
 pub mod Orbit
 pub mod Outcome
 pub mod Parents
+pub mod Trap
+pub mod Unsettled
