@@ -20,8 +20,8 @@ use Rattle.network.specs.Bounds.{Bound, no-earlier, part-lengths, Part, 
 use Rattle.network.specs.Judge.{judge}
 use Rattle.network.proofs.Members.{to-flat, of-flat, places-append, places-within, in-places}
 use Rattle.network.proofs.Judged.{judged-sound}
-use Rattle.network.proofs.Sorts.{along, Order, Sort, starts, travels, orders, finishes, sort-of, start-there, start-in}
-use Rattle.network.proofs.Routes.{Origin, origin, path-there, event-count-is}
+use Rattle.network.proofs.Sorts.{along, Order, Sort, starts, travels, orders, finishes, sort-of, start-there, travel-there, finish-there, start-in, travel-in, finish-in}
+use Rattle.network.proofs.Routes.{Origin, origin, path-there, some-route, event-count-is}
 
 -- ---- the numbers of the points
 
@@ -202,3 +202,50 @@ sound-bounds-between p s b m = between-sort p s b (sort-of p b m)
 
 pub bounds-between : (ts : Tables) (p : Plan) → judge ts ≡ accepted p → (b : Bound) → List·Memᴰ b (bounds p) → (b .from < event-count p) × (b .to < event-count p)
 bounds-between ts p e b m = sound-bounds-between p (judged-sound ts p e) b m
+
+-- ---- every event but the start is entered
+
+-- by a bound from an event before it
+abbrev pub Entered : Plan → ℕ → Type 0
+Entered p e = (b : Bound) × List·Memᴰ b (bounds p) × (b .to ≡ e) × (b .from < e)
+
+-- the finish, by the finish bound of any route
+finish-entered : (p : Plan) → Sound p → (e : ℕ) → suc e ≡ event-count p → Entered p e
+unfolding no-earlier finish-event last-event
+finish-entered p s e q =
+    let (r, m) = some-route p (s .some-cart) (omega (arith, s .some-cart, s .path-each)) in
+    let (_, most) = route-within p r m in
+    (no-earlier (last-event r) (finish-event p),
+     finish-there p _ (finish-in (finish-event p) (routes-of p) r m),
+     omega (arith, q),
+     omega (arith, some-point p s r m, most, q))
+
+-- a route's first point by its start bound, a later one by the travel bound from the point before
+point-entered : (p : Plan) → Sound p → (r : Route) → List·Memᴰ r (routes-of p) → (e : ℕ) → r .first ≤ e → e < r .first + length (route-points r) → Entered p e
+point-entered p s r m e l h = ⊎-elim first-one later-one (eq-or-lt-of-le l)
+  where
+    first-one : r .first ≡ e → Entered p e
+    first-one q = (_, first-bound p r m, q, omega (arith, q, route-within p r m .0))
+
+    later-one : r .first < e → Entered p e
+    later-one k =
+        let (b, n, from, to) = along-at p s r m (e - suc (r .first)) (omega (arith, k, h)) in
+        (b, travel-there p b (travel-in (p .roads) (routes-of p) r b m n), omega (arith, to, k), omega (arith, from, k))
+
+pub sound-entered : (p : Plan) → Sound p → (e : ℕ) → 0 < e → e < event-count p → Entered p e
+unfolding route-events
+sound-entered p s e l h = ⊎-elim (λ q. finish-entered p s e q) inner (eq-or-lt-of-le h)
+  where
+    inner : suc e < event-count p → Entered p e
+    inner k =
+        let (row, count) = event-numbers p in
+        let there : List·Memᴰ e (flatMap route-events (routes-of p)) =
+            subst (λ (x : List ℕ). List·Memᴰ e x) (sym row) (in-places 1 (flatMap route-points (routes-of p)) e l (omega (arith, k, count)))
+        in
+        let (r, m, n) = of-flat route-events (routes-of p) e there in
+        let (least, most) = places-within (r .first) (route-points r) e n in
+        point-entered p s r m e least most
+
+pub entered : (ts : Tables) (p : Plan) → judge ts ≡ accepted p → (e : ℕ) → 0 < e → e < event-count p
+    → (b : Bound) × List·Memᴰ b (bounds p) × (b .to ≡ e) × (b .from < e)
+entered ts p q e l h = sound-entered p (judged-sound ts p q) e l h
