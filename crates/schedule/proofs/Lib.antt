@@ -1,7 +1,9 @@
 pub mod Rows
 pub mod Quick
+pub mod Log
 pub mod Books
 pub mod Solutions
 pub mod Numbers
 pub mod Chains
 pub mod Logged
+pub mod Times
