@@ -19,7 +19,8 @@ use Rattle.network.specs.Bounds.{Bound, bounds}
 use Rattle.network.specs.Judge.{judge}
 use Rattle.network.proofs.Judged.{judged, judged-sound}
 use Rattle.network.proofs.Routes.{event-count-is}
-use Rattle.network.proofs.Ends.{some-visit, route-first}
+use Rattle.network.proofs.Sizes.{bound-sizes}
+use Rattle.network.proofs.Ends.{some-visit, route-first, bounds-between, entered}
 use Rattle.walks.specs.Walks.{Arc, Walk, stay, go}
 use Rattle.walks.specs.Solutions.{Between}
 use Rattle.schedule.specs.Book.{Report, Book, Passed, passed-at, first-book, replay, route-passed, route-to-pass, passed-points, points-to-pass}
@@ -119,72 +120,71 @@ module _ (p : Plan) (b : Book) (l : Logged p b) where
       by none h = absurd (List·Memᴰ·not-nil h)
       by (some x) h = let e = List·Memᴰ·eq-of-singleton h in inr (ap (λ (y : Arc). y .from) e, ap (λ (y : Arc). y .to) e)
 
-  module _ (bounds-between : (ts : Tables) (p : Plan) → judge ts ≡ accepted p → (b : Bound) → List·Memᴰ b (bounds p) → (b .from < event-count p) × (b .to < event-count p))
-      (entered : (ts : Tables) (p : Plan) → judge ts ≡ accepted p → (e : ℕ) → 0 < e → e < event-count p → (b : Bound) × List·Memᴰ b (bounds p) × (b .to ≡ e) × (b .from < e))
-      (bound-sizes : (ts : Tables) (p : Plan) → judge ts ≡ accepted p → (b : Bound) → List·Memᴰ b (bounds p) → (b .lo ≤ 100_000_000) × ((h : ℕ) → b .hi ≡ some h → h ≤ 100_000_000)) where
-    bound-ends : (c : Bound) → List·Memᴰ c (all-bounds p b) → (c .from < event-count p) × (c .to < event-count p)
-    unfolding all-bounds
-    bound-ends c m =
-        ⊎-elim (bounds-between (l .tables) p (l .of-tables) c)
-        (λ h. let a = added-bound c h in (omega (arith, a .from-start, some-event), a .to-event))
-        (List·Memᴰ·append-cases (bounds p) m)
+  bound-ends : (c : Bound) → List·Memᴰ c (all-bounds p b) → (c .from < event-count p) × (c .to < event-count p)
+  unfolding all-bounds
+  bound-ends c m =
+      ⊎-elim (bounds-between (l .tables) p (l .of-tables) c)
+      (λ h. let a = added-bound c h in (omega (arith, a .from-start, some-event), a .to-event))
+      (List·Memᴰ·append-cases (bounds p) m)
 
-    pub arcs-between : Between (arcs p b) (event-count p)
-    unfolding arcs
-    arcs-between a m =
-        let (c, k, w) = flatMap-member ways (all-bounds p b) a m in
-        let (f, t) = bound-ends c k in
-        ⊎-elim (λ h. (omega (arith, h .0, f), omega (arith, h .1, t))) (λ h. (omega (arith, h .0, t), omega (arith, h .1, f))) (way-ends c a w)
+  pub arcs-between : Between (arcs p b) (event-count p)
+  unfolding arcs
+  arcs-between a m =
+      let (c, k, w) = flatMap-member ways (all-bounds p b) a m in
+      let (f, t) = bound-ends c k in
+      ⊎-elim (λ h. (omega (arith, h .0, f), omega (arith, h .1, t))) (λ h. (omega (arith, h .0, t), omega (arith, h .1, f))) (way-ends c a w)
 
-    bound-most : (c : Bound) → List·Memᴰ c (all-bounds p b) → (c .lo ≤ 1_000_000_000_000) × ((h : ℕ) → c .hi ≡ some h → h ≤ 1_000_000_000_000)
-    unfolding all-bounds
-    bound-most c m =
-        ⊎-elim (λ k. let (x, y) = bound-sizes (l .tables) p (l .of-tables) c k in (omega (arith, x), λ h q. omega (arith, y h q)))
-        (λ h. let a = added-bound c h in (a .lo-most, a .hi-most))
-        (List·Memᴰ·append-cases (bounds p) m)
+  -- ---- every event is reached
 
-    way-within : (c : Bound) → (c .lo ≤ 1_000_000_000_000) → ((h : ℕ) → c .hi ≡ some h → h ≤ 1_000_000_000_000) → (a : Arc) → List·Memᴰ a (ways c)
-        → Within 1_000_000_000_000 (a .adds)
-    unfolding ways forward backward
-    way-within c x y a m = ⊎-elim (λ (e : a ≡ forward c). subst (λ (z : Arc). Within 1_000_000_000_000 (z .adds)) (sym e) (record { above = x; under = omega arith })) (by (c .hi) refl) (List·Memᴰ·cases-cons m)
-      where
-        by : (o : Option ℕ) → c .hi ≡ o → List·Memᴰ a (backward c o) → Within 1_000_000_000_000 (a .adds)
-        by none q h = absurd (List·Memᴰ·not-nil h)
-        by (some h) q k =
-            let g : h ≤ 1_000_000_000_000 = y h q in
-            subst (λ (z : Arc). Within 1_000_000_000_000 (z .adds)) (sym (List·Memᴰ·eq-of-singleton k))
-            (record { above = omega (arith, neg-up (pos h)); under = omega (arith, neg-dn (pos h), g) })
+  -- a walk from the start to e whose sum is not below 0
+  pub record Reached (e : ℕ) : Type 0 where
+    pub count : ℕ
+    pub total : ℤ
+    pub walk : Walk (arcs p b) count e total
+    pub not-below : pos 0 ≤ℤ total
 
-    -- no arc adds more than 10^12 either way
-    pub arcs-within : (a : Arc) → List·Memᴰ a (arcs p b) → Within 1_000_000_000_000 (a .adds)
-    unfolding arcs
-    arcs-within a m =
-        let (c, k, w) = flatMap-member ways (all-bounds p b) a m in
-        let (x, y) = bound-most c k in
-        way-within c x y a w
+  one-on : (c : Bound) → List·Memᴰ c (bounds p) → Reached (c .from) → Reached (c .to)
+  unfolding arcs all-bounds ways forward
+  one-on c m r =
+      let w : Walk (arcs p b) (suc (r .count)) (c .to) (r .total +ℤ pos (c .lo)) =
+      go (forward c) (member-flatMap ways (all-bounds p b) c (forward c) (Memᴰ·append-left (added-bounds p b) m) (List·Memᴰ·head refl)) (r .walk) in
+      record { count = suc (r .count); total = r .total +ℤ pos (c .lo); walk = w; not-below = omega (signed, r .not-below, sum (r .total) (pos (c .lo))) }
 
-    -- ---- every event is reached
+  reach : (m e : ℕ) → e < m → e < event-count p → Reached e
+  reach zero e h k = absurd (omega arith)
+  reach (suc m) zero h k = record { count = 0; total = pos 0; walk = stay; not-below = omega signed }
+  reach (suc m) (suc e) h k =
+      let (c, i, t, f) = entered (l .tables) p (l .of-tables) (suc e) (omega arith) k in
+      subst Reached t (one-on c i (reach m (c .from) (omega (arith, f)) (omega (arith, f))))
 
-    -- a walk from the start to e whose sum is not below 0
-    pub record Reached (e : ℕ) : Type 0 where
-      pub count : ℕ
-      pub total : ℤ
-      pub walk : Walk (arcs p b) count e total
-      pub not-below : pos 0 ≤ℤ total
+  pub every-event-reached : (e : ℕ) → e < event-count p → Reached e
+  every-event-reached e h = reach (suc e) e (omega arith) h
 
-    one-on : (c : Bound) → List·Memᴰ c (bounds p) → Reached (c .from) → Reached (c .to)
-    unfolding arcs all-bounds ways forward
-    one-on c m r =
-        let w : Walk (arcs p b) (suc (r .count)) (c .to) (r .total +ℤ pos (c .lo)) =
-        go (forward c) (member-flatMap ways (all-bounds p b) c (forward c) (Memᴰ·append-left (added-bounds p b) m) (List·Memᴰ·head refl)) (r .walk) in
-        record { count = suc (r .count); total = r .total +ℤ pos (c .lo); walk = w; not-below = omega (signed, r .not-below, sum (r .total) (pos (c .lo))) }
+  -- ---- what the arcs add
 
-    reach : (m e : ℕ) → e < m → e < event-count p → Reached e
-    reach zero e h k = absurd (omega arith)
-    reach (suc m) zero h k = record { count = 0; total = pos 0; walk = stay; not-below = omega signed }
-    reach (suc m) (suc e) h k =
-        let (c, i, t, f) = entered (l .tables) p (l .of-tables) (suc e) (omega arith) k in
-        subst Reached t (one-on c i (reach m (c .from) (omega (arith, f)) (omega (arith, f))))
+  bound-most : (c : Bound) → List·Memᴰ c (all-bounds p b) → (c .lo ≤ 1_000_000_000_000) × ((h : ℕ) → c .hi ≡ some h → h ≤ 1_000_000_000_000)
+  unfolding all-bounds
+  bound-most c m =
+      ⊎-elim (λ k. let (x, y) = bound-sizes (l .tables) p (l .of-tables) c k in (omega (arith, x), λ h q. omega (arith, y h q)))
+      (λ h. let a = added-bound c h in (a .lo-most, a .hi-most))
+      (List·Memᴰ·append-cases (bounds p) m)
 
-    pub every-event-reached : (e : ℕ) → e < event-count p → Reached e
-    every-event-reached e h = reach (suc e) e (omega arith) h
+  way-within : (c : Bound) → (c .lo ≤ 1_000_000_000_000) → ((h : ℕ) → c .hi ≡ some h → h ≤ 1_000_000_000_000) → (a : Arc) → List·Memᴰ a (ways c)
+      → Within 1_000_000_000_000 (a .adds)
+  unfolding ways forward backward
+  way-within c x y a m = ⊎-elim (λ (e : a ≡ forward c). subst (λ (z : Arc). Within 1_000_000_000_000 (z .adds)) (sym e) (record { above = x; under = omega arith })) (by (c .hi) refl) (List·Memᴰ·cases-cons m)
+    where
+      by : (o : Option ℕ) → c .hi ≡ o → List·Memᴰ a (backward c o) → Within 1_000_000_000_000 (a .adds)
+      by none q h = absurd (List·Memᴰ·not-nil h)
+      by (some h) q k =
+          let g : h ≤ 1_000_000_000_000 = y h q in
+          subst (λ (z : Arc). Within 1_000_000_000_000 (z .adds)) (sym (List·Memᴰ·eq-of-singleton k))
+          (record { above = omega (arith, neg-up (pos h)); under = omega (arith, neg-dn (pos h), g) })
+
+  -- no arc adds more than 10^12 either way
+  pub arcs-within : (a : Arc) → List·Memᴰ a (arcs p b) → Within 1_000_000_000_000 (a .adds)
+  unfolding arcs
+  arcs-within a m =
+      let (c, k, w) = flatMap-member ways (all-bounds p b) a m in
+      let (x, y) = bound-most c k in
+      way-within c x y a w
