@@ -277,7 +277,7 @@ module _ (n : ℕ) (ts : Tables) (log : List Report) where
 -- ---- what a slice holds
 
 -- a test that passes is true
-passes : (b : Bool) → T b → b ≡ true
+pub passes : (b : Bool) → T b → b ≡ true
 passes true t = refl
 passes false t = absurd t
 
