@@ -214,11 +214,12 @@ finish-entered : (p : Plan) → Sound p → (e : ℕ) → suc e ≡ event-count 
 unfolding no-earlier finish-event last-event
 finish-entered p s e q =
     let (r, m) = some-route p (s .some-cart) (omega (arith, s .some-cart, s .path-each)) in
-    let (_, most) = route-within p r m in
-    (no-earlier (last-event r) (finish-event p),
-     finish-there p _ (finish-in (finish-event p) (routes-of p) r m),
-     omega (arith, q),
-     omega (arith, some-point p s r m, most, q))
+    let (_, most) = route-within p r m in (
+      no-earlier (last-event r) (finish-event p),
+      finish-there p _ (finish-in (finish-event p) (routes-of p) r m),
+      omega (arith, q),
+      omega (arith, some-point p s r m, most, q),
+    )
 
 -- a route's first point by its start bound, a later one by the travel bound from the point before
 point-entered : (p : Plan) → Sound p → (r : Route) → List·Memᴰ r (routes-of p) → (e : ℕ) → r .first ≤ e → e < r .first + length (route-points r) → Entered p e
@@ -240,7 +241,7 @@ sound-entered p s e l h = ⊎-elim (λ q. finish-entered p s e q) inner (eq-or-l
     inner k =
         let (row, count) = event-numbers p in
         let there : List·Memᴰ e (flatMap route-events (routes-of p)) =
-            subst (λ (x : List ℕ). List·Memᴰ e x) (sym row) (in-places 1 (flatMap route-points (routes-of p)) e l (omega (arith, k, count)))
+        subst (λ (x : List ℕ). List·Memᴰ e x) (sym row) (in-places 1 (flatMap route-points (routes-of p)) e l (omega (arith, k, count)))
         in
         let (r, m, n) = of-flat route-events (routes-of p) e there in
         let (least, most) = places-within (r .first) (route-points r) e n in
