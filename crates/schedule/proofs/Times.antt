@@ -84,7 +84,8 @@ module _ (p : Plan) (b : Book) (l : Logged p b) where
   pub sums-in-range : (k v : ℕ) (x : ℤ) → k ≤ n → getD (sums (arcs p b) n k) v none ≡ some x → Within 4_096_000_000_000_000 x
   sums-in-range k v x h e =
       let w : Within (k * 1_000_000_000_000) x = sums-within (arcs p b) 1_000_000_000_000 (arcs-within p b l) n k v x e in
-      let m : k * 1_000_000_000_000 ≤ 4096 * 1_000_000_000_000 = mul-le-mul-right 1_000_000_000_000 (omega (arith, h, few-events)) in
+      let few : k ≤ 4096 = omega (arith, h, few-events) in
+      let m : k * 1_000_000_000_000 ≤ 4096 * 1_000_000_000_000 = mul-le-mul-right 1_000_000_000_000 few in
       record { above = omega (arith, w .above, m); under = omega (arith, w .under, m) }
 
   -- ---- times
