@@ -18,6 +18,7 @@ use Rattle.floor.specs.Tables.{Tables}
 use Rattle.network.specs.Events.{event-count}
 use Rattle.network.specs.Judge.{judge}
 use Rattle.network.specs.Meaning.{Times, KeepsOrder, Demand-2}
+use Rattle.network.proofs.Judged.{judged}
 use Rattle.schedule.specs.Book.{Report, Book, first-book, acceptable, pass-next, book-after, replay}
 use Rattle.schedule.specs.Fits.{Fits}
 use Rattle.schedule.specs.Timetable.{Timetable, timetable}
@@ -30,7 +31,7 @@ use Rattle.hegtalim.specs.declared.Loaded.{Loaded}
 use Rattle.hegtalim.specs.declared.Reported.{Reported}
 use Rattle.hegtalim.specs.declared.Timed.{Timed}
 use Rattle.hegtalim.specs.PlanSlice.{plan-need, plan-slice, Held, held}
-use Rattle.hegtalim.specs.Outcomes.{load, book-answer, Reporting, report, Lent, long-enough, meets-needs, times-written, chain-written, Timetabled, too-short, no-plan, timed, no-times}
+use Rattle.hegtalim.specs.Outcomes.{Load, load, book-answer, Reporting, report, Lent, long-enough, meets-needs, times-written, chain-written, Timetabled, too-short, no-plan, timed, no-times}
 use Rattle.hegtalim.specs.Claim.{Call, reporting, timing, Reply, reported, Replies, to-report, to-timetable, Played, done, then, book-after-call, book-after-calls, Right, AllRight, times-in, Earliest, Impossible, Truthful, Holds, Demand-3, Answered}
 use Rattle.hegtalim.specs.Claim as Claim
 use Rattle.hegtalim.proofs.Slice.{held-slice, slice-length, held-says}
@@ -87,3 +88,164 @@ module _ (ts : Tables) (p : Plan) where
             is = e;
           }
       by false q e = record { places = h .places; enough = h .enough; of-tables = h .of-tables; log = h .log; replayed = h .replayed; is = e }
+
+  -- whether an answer is one of a timetable that is turned down
+  is-no-plan : Timed → Bool
+  is-no-plan (Timed.Times k) = false
+  is-no-plan Timed.TooShort = false
+  is-no-plan Timed.NoPlan = true
+  is-no-plan (Timed.NoTimes n) = false
+
+  is-too-short : Timed → Bool
+  is-too-short (Timed.Times k) = false
+  is-too-short Timed.TooShort = true
+  is-too-short Timed.NoPlan = false
+  is-too-short (Timed.NoTimes n) = false
+
+  -- a timetable that meets its needs has slices that are long enough
+  own-long : (s : List ℕ) (l : Lent) → meets-needs s l ≡ true → T (long-enough l)
+  unfolding meets-needs
+  own-long s l e = and-yes (leb plan-need (length s)) (long-enough l) (subst T (sym e) tt) .1
+
+  -- with the slice of a held plan, that is all it needs
+  needs-met : (s : List ℕ) (b : Book) (l : Lent) → Standing ts p s b → T (long-enough l) → T (meets-needs s l)
+  unfolding meets-needs
+  needs-met s b l h k = yes-and (leb plan-need (length s)) (long-enough l) (long s b h) k
+
+  abbrev RightTimed : Lent → Timed → Type 0
+  RightTimed l a = (a ≢ Timed.NoPlan) × ((a ≡ Timed.TooShort) ↔ (¬ T (long-enough l)))
+
+  -- an answer that is neither
+  neither : (s : List ℕ) (l : Lent) (a : Timed) → meets-needs s l ≡ true → is-no-plan a ≡ false → is-too-short a ≡ false → RightTimed l a
+  unfolding is-no-plan is-too-short
+  neither s l a e f g =
+      (
+        λ q. subst T (sym (ap is-no-plan q) ∙ f) tt,
+        (λ q. absurd (subst T (sym (ap is-too-short q) ∙ g) tt), λ k. absurd (k (own-long s l e))),
+      )
+
+  -- a timetable is no 10, and a 14 exactly for its own slices
+  after-timetable : (s : List ℕ) (b : Book) (l l′ : Lent) (a : Timed) → Standing ts p s b → Timetabled s l a l′ → RightTimed l a
+  unfolding is-no-plan is-too-short
+  after-timetable s b l l′ a h (too-short e) =
+      (
+        λ q. subst T (sym (ap is-no-plan q)) tt,
+        (λ q k. subst T e (needs-met s b l h k), λ k. refl),
+      )
+  after-timetable s b l l′ a h (no-plan e f) = absurd (Option·none-ne-some _ (sym f ∙ holds-plan s b h))
+  after-timetable s b l l′ a h (timed e k f t g) = neither s l (Timed.Times (t .passes)) e refl refl
+  after-timetable s b l l′ a h (no-times e k f g is c m) = neither s l (Timed.NoTimes (length is)) e refl refl
+
+  after-call : (s s′ : List ℕ) (b : Book) (c : Call) (a : Reply) → Standing ts p s b → Replies s c a s′
+      → Right p b c a × Standing ts p s′ (book-after-call p b c)
+  unfolding book-after-call
+  after-call s s′ b c a h (to-report s₁ r) = after-report s b r h
+  after-call s s′ b c a h (to-timetable s₁ l l′ t k) = (after-timetable s b l l′ t h k, h)
+
+  -- ---- the list of calls
+
+  after-calls : (s s′ : List ℕ) (b : Book) (cs : List Call) (as′ : List Reply) → Standing ts p s b → Played s cs as′ s′
+      → AllRight p b cs as′ × Standing ts p s′ (book-after-calls p b cs)
+  unfolding book-after-calls
+  after-calls s s′ b cs as′ h (done s₁) = (tt, h)
+  after-calls s s′ b cs as′ h (then s₁ s₂ s₃ c a cs₁ as₁ one more) =
+      let (right, next) = after-call s s₂ b c a h one in
+      let (all, last) = after-calls s₂ s′ (book-after-call p b c) cs₁ as₁ next more in
+      ((right, all), last)
+
+  -- ---- the timetable after the list
+
+  -- the times written are read back
+  times-back : (b : Book) (k : Logged p b) (t : Timetable) → timetable p b ≡ some t → (l : Lent) (v : ℕ) → v < event-count p
+      → times-in (times-written t l .times) v ≡ pos (getD (t .times) v 0)
+  unfolding times-in times-written written
+  times-back b k t e l v h =
+      let few : getD (t .times) v 0 ≤ 4_096_000_000_000_000 = timetable-range p b k t e v h in
+      ap pos (word-at-words 8 (t .times) (drop (length (words 8 (t .times))) (l .times)) v (subst (λ (x : ℕ). v < x) (sym (timetable-length p b k t e)) h) (omega (arith, few)))
+
+  earliest : (b : Book) → Logged p b → (t : Timetable) → timetable p b ≡ some t → (l : Lent) → Earliest p b (times-in (times-written t l .times)) (t .passes)
+  earliest b k t e l =
+      let (fits, least) = timetable-earliest p b k t e (times-in (times-written t l .times)) (times-back b k t e l) in
+      let (counted, below) = timetable-counted p b k t e in
+      record { fits = fits; earliest = least; counted = counted; below = below }
+
+  impossible : (b : Book) → Logged p b → timetable p b ≡ none → (l : Lent) (is : List Item) → T (is-chain p b is)
+      → Impossible p b (chain-written is l) (length is)
+  unfolding chain-written
+  impossible b k e l is c =
+      let numbers : List ℕ = map (λ (i : Item). i .number) is in
+      let directions : List ℕ = map (λ (i : Item). direction-number (i .direction)) is in
+      let two : length (words 2 numbers) ≡ 2 * length is = words-length 2 numbers ∙ ap (λ (x : ℕ). 2 * x) (length-map is (λ (i : Item). i .number)) in
+      record {
+        none-fit = no-timetable-none-fit p b k e;
+        items = is;
+        chain = c;
+        long = refl;
+        bounds-handed-over = subst (λ (x : ℕ). take x (written (words 2 numbers) (l .chain-bounds)) ≡ words 2 numbers) two (written-front (words 2 numbers) (l .chain-bounds));
+        directions-handed-over =
+            subst (λ (x : ℕ). take x (written directions (l .chain-directions)) ≡ directions) (length-map is (λ (i : Item). direction-number (i .direction)))
+            (written-front directions (l .chain-directions));
+      }
+
+  truthful : (s : List ℕ) (b : Book) (l l′ : Lent) (a : Timed) → Standing ts p s b → T (long-enough l) → Timetabled s l a l′ → Truthful p b a l′
+  truthful s b l l′ a h k (too-short e) = subst T e (needs-met s b l h k)
+  truthful s b l l′ a h k (no-plan e f) = Option·none-ne-some _ (sym f ∙ holds-plan s b h)
+  truthful s b l l′ a h k (timed e x f t g) =
+      let same : x ≡ record { tables = ts; log = h .log; plan = p; book = b } = Option·some-injective _ _ (sym f ∙ holds-plan s b h) in
+      earliest b (logged s b h) t (subst (λ (y : Held). timetable (y .plan) (y .book) ≡ some t) same g) l
+  truthful s b l l′ a h k (no-times e x f g is c m) =
+      let same : x ≡ record { tables = ts; log = h .log; plan = p; book = b } = Option·some-injective _ _ (sym f ∙ holds-plan s b h) in
+      impossible b (logged s b h) (subst (λ (y : Held). timetable (y .plan) (y .book) ≡ none) same g) l is (subst (λ (y : Held). T (is-chain (y .plan) (y .book) is)) same c)
+
+-- ---- the whole
+
+-- what an accepted load leaves stands, with the first book
+loaded-stands : (ts : Tables) (before : List ℕ) (p : Plan) → plan-need ≤ length before → judge ts ≡ accepted p → Standing ts p (load ts before .plan) (first-book p)
+unfolding replay
+loaded-stands ts before p h e =
+    record {
+      places = length before;
+      enough = h;
+      of-tables = e;
+      log = [];
+      replayed = refl;
+      is = ap (λ (x : Load). x .plan) (load-accepted ts before p h e);
+    }
+
+pub demand-3 : Demand-2 → Demand-3
+demand-3 d2 ts before e calls replies s played =
+    let (p, h, j) = load-held ts before e in
+    let first : Standing ts p (load ts before .plan) (first-book p) = loaded-stands ts before p h j in
+    let (right, last) = after-calls ts p (load ts before .plan) s (first-book p) calls replies first played in
+    record {
+      plan = p;
+      of-tables = j;
+      replied = right;
+      timetable = λ l l′ a k t. truthful ts p s (book-after-calls p (first-book p) calls) l l′ a last k t;
+      order-kept = λ t f. d2 ts p j t .0 (f .meets) .3;
+    }
+
+-- ---- a timetable has an outcome on all input
+
+pub answered : Answered
+answered s l = by (meets-needs s l) refl (held s) refl
+  where
+    out : Type 0
+    out = (a : Timed) × (l′ : Lent) × Timetabled s l a l′
+
+    held-out : (h : Held) → meets-needs s l ≡ true → held s ≡ some h → (o : Option Timetable) → timetable (h .plan) (h .book) ≡ o → out
+    held-out h e f (some t) g = (Timed.Times (t .passes), times-written t l, timed e h f t g)
+    held-out h e f none g =
+        let (n, j, r, q) = held-says s h f in
+        let k : Logged (h .plan) (h .book) = record { tables = h .tables; of-tables = j; log = h .log; replayed = r } in
+        let c : ChainWithin (h .plan) (h .book) (event-count (h .plan)) = no-timetable-chain (h .plan) (h .book) k g in
+        (
+          Timed.NoTimes (length (c .items)),
+          chain-written (c .items) l,
+          no-times e h f g (c .items) (c .chain) (omega (arith, c .short, judged (h .tables) (h .plan) j .1)),
+        )
+
+    by : (t : Bool) → meets-needs s l ≡ t → (o : Option Held) → held s ≡ o → out
+    by false e o f = (Timed.TooShort, l, too-short e)
+    by true e none f = (Timed.NoPlan, l, no-plan e f)
+    by true e (some h) f = held-out h e f (timetable (h .plan) (h .book)) refl
