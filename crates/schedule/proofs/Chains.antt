@@ -188,7 +188,7 @@ own-bound (b ∷ bs) i x m =
     ⊎-elim (λ (e : x ≡ record { number = i; bound = b }). List·Memᴰ·head (ap (λ (y : Numbered). y .bound) e)) (λ t. List·Memᴰ·tail (own-bound bs (suc i) x t))
     (List·Memᴰ·cases-cons m)
 
-numbered-bound : (p : Plan) (b : Book) (x : Numbered) → List·Memᴰ x (numbered-bounds p b) → List·Memᴰ (x .bound) (all-bounds p b)
+pub numbered-bound : (p : Plan) (b : Book) (x : Numbered) → List·Memᴰ x (numbered-bounds p b) → List·Memᴰ (x .bound) (all-bounds p b)
 unfolding numbered-bounds all-bounds added-numbered
 numbered-bound p b x m =
     ⊎-elim (λ h. Memᴰ·append-left (added-bounds p b) (own-bound (bounds p) 0 x h))
@@ -220,6 +220,12 @@ legs-bounds bs (i ∷ is) ls e l m =
     (λ (q : l ≡ y). let (x, k, j) = leg-bound bs i y f in (x, i .direction, k, j ∙ ap some (sym q)))
     (λ t. legs-bounds bs is more g l t)
     (List·Memᴰ·cases-cons (subst (List·Memᴰ l) h m))
+
+-- there is a leg for each item
+pub legs-long : (bs : List Numbered) (is : List Item) (ls : List Leg) → legs bs is ≡ some ls → length ls ≡ length is
+unfolding legs
+legs-long bs [] ls e = ap length (sym (Option·some-injective _ _ e))
+legs-long bs (i ∷ is) ls e = let (l, more, f, g, h) = legs-parts bs i is ls e in ap length h ∙ ap suc (legs-long bs is more g)
 
 -- along linked legs, each of which holds, the end comes no later than the beginning and the costs
 linked-holds : (t : Times) (u e : ℕ) (ls : List Leg) → ((l : Leg) → List·Memᴰ l ls → Holds t l) → T (linked u e ls) → t e ≤ℤ (t u +ℤ cost ls)

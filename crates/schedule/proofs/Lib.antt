@@ -7,3 +7,4 @@ pub mod Numbers
 pub mod Chains
 pub mod Logged
 pub mod Times
+pub mod ChainLength

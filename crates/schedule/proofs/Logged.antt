@@ -120,7 +120,8 @@ module _ (p : Plan) (b : Book) (l : Logged p b) where
       by none h = absurd (List·Memᴰ·not-nil h)
       by (some x) h = let e = List·Memᴰ·eq-of-singleton h in inr (ap (λ (y : Arc). y .from) e, ap (λ (y : Arc). y .to) e)
 
-  bound-ends : (c : Bound) → List·Memᴰ c (all-bounds p b) → (c .from < event-count p) × (c .to < event-count p)
+  -- every bound goes between events
+  pub bound-ends : (c : Bound) → List·Memᴰ c (all-bounds p b) → (c .from < event-count p) × (c .to < event-count p)
   unfolding all-bounds
   bound-ends c m =
       ⊎-elim (bounds-between (l .tables) p (l .of-tables) c)
