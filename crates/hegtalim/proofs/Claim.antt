@@ -18,7 +18,6 @@ use Rattle.floor.specs.Tables.{Tables}
 use Rattle.network.specs.Events.{event-count}
 use Rattle.network.specs.Judge.{judge}
 use Rattle.network.specs.Meaning.{Times, KeepsOrder, Demand-2}
-use Rattle.network.proofs.Judged.{judged}
 use Rattle.schedule.specs.Book.{Report, Book, first-book, acceptable, pass-next, book-after, replay}
 use Rattle.schedule.specs.Fits.{Fits}
 use Rattle.schedule.specs.Timetable.{Timetable, timetable}
@@ -134,7 +133,7 @@ module _ (ts : Tables) (p : Plan) where
       )
   after-timetable s b l l′ a h (no-plan e f) = absurd (Option·none-ne-some _ (sym f ∙ holds-plan s b h))
   after-timetable s b l l′ a h (timed e k f t g) = neither s l (Timed.Times (t .passes)) e refl refl
-  after-timetable s b l l′ a h (no-times e k f g is c m) = neither s l (Timed.NoTimes (length is)) e refl refl
+  after-timetable s b l l′ a h (no-times e k f g is c) = neither s l (Timed.NoTimes (length is)) e refl refl
 
   after-call : (s s′ : List ℕ) (b : Book) (c : Call) (a : Reply) → Standing ts p s b → Replies s c a s′
       → Right p b c a × Standing ts p s′ (book-after-call p b c)
@@ -193,7 +192,7 @@ module _ (ts : Tables) (p : Plan) where
   truthful s b l l′ a h k (timed e x f t g) =
       let same : x ≡ record { tables = ts; log = h .log; plan = p; book = b } = Option·some-injective _ _ (sym f ∙ holds-plan s b h) in
       earliest b (logged s b h) t (subst (λ (y : Held). timetable (y .plan) (y .book) ≡ some t) same g) l
-  truthful s b l l′ a h k (no-times e x f g is c m) =
+  truthful s b l l′ a h k (no-times e x f g is c) =
       let same : x ≡ record { tables = ts; log = h .log; plan = p; book = b } = Option·some-injective _ _ (sym f ∙ holds-plan s b h) in
       impossible b (logged s b h) (subst (λ (y : Held). timetable (y .plan) (y .book) ≡ none) same g) l is (subst (λ (y : Held). T (is-chain (y .plan) (y .book) is)) same c)
 
@@ -242,7 +241,7 @@ answered s l = by (meets-needs s l) refl (held s) refl
         (
           Timed.NoTimes (length (c .items)),
           chain-written (c .items) l,
-          no-times e h f g (c .items) (c .chain) (omega (arith, c .short, judged (h .tables) (h .plan) j .1)),
+          no-times e h f g (c .items) (c .chain),
         )
 
     by : (t : Bool) → meets-needs s l ≡ t → (o : Option Held) → held s ≡ o → out

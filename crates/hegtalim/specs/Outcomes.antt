@@ -1,6 +1,6 @@
 -- What each call answers and leaves in the slices lent to it, on all input (document 01, "Turned down because of the input" and "… of the state").
 -- Assumes nothing.
-use Prim.Native.Nat.{ℕ, _≤_}
+use Prim.Native.Nat.{ℕ}
 use mathlib.Core.Path.{_≡_}
 use mathlib.Core.Bool.{Bool, true, false, _&&_, cond}
 use mathlib.Core.List.{List, [], _∷_, _++_, map}
@@ -110,7 +110,7 @@ pub data Timetabled (s : List ℕ) (l : Lent) : Timed → Lent → Type 0 where
       → Timetabled s l (Timed.Times (t .passes)) (times-written t l)
   no-times : meets-needs s l ≡ true → (h : Held) → held s ≡ some h
       → timetable (h .plan) (h .book) ≡ none
-      → (is : List Item) → T (is-chain (h .plan) (h .book) is) → length is ≤ 4096
+      → (is : List Item) → T (is-chain (h .plan) (h .book) is)
       → Timetabled s l (Timed.NoTimes (length is)) (chain-written is l)
 
 -- Names every definition of this module, for a proof that computes with them all.

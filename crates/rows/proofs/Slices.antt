@@ -32,4 +32,4 @@ times-answered = timed refl held-at-first at-first times refl
 -- the report at 500 against a lo of 1,000: three items, written to the front of the chain slices
 chain-answered : Timetabled (slice two-reports) lent (Timed.NoTimes 3) (chain-written too-early lent)
 unfolding open-hegtalim open-slices open-starred
-chain-answered = no-times refl held-later later refl too-early tt (lib.Dec.lit≤ tt)
+chain-answered = no-times refl held-later later refl too-early tt
