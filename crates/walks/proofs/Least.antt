@@ -1,14 +1,13 @@
 -- The settled sums are the least times that every arc allows. Assumes nothing.
-use Prim.Native.Nat.{ℕ, suc, _≤_, _<_}
-use native.Mathlib.Omega.{arith}
-use mathlib.Core.Path.{_≡_, refl, ap, sym, _∙_, subst}
+use Prim.Native.Nat.{ℕ, suc, _<_}
+use mathlib.Core.Path.{_≡_}
 use mathlib.Core.List.{List, List·Memᴰ}
-use mathlib.Core.Option.{Option, none, some}
+use mathlib.Core.Option.{none, some}
 use lib.IntN.{ℤ, pos, _+ℤ_}
 use lib.Signed.{_≤ℤ_}
 use lib.ListN.{getD}
 use Rattle.walks.specs.Walks.{Arc, Walk, stay, go, WalkWithin}
-use Rattle.walks.specs.Passes.{Sums, sums, Settled, settled}
+use Rattle.walks.specs.Passes.{sums, Settled, settled}
 use Rattle.walks.specs.Solutions.{Solves, Between}
 use Rattle.walks.proofs.Greatest.{AtLeast, some-equal}
 use Rattle.walks.proofs.Settling.{one-value, settled-bounds, settled-walk, settled-start}

@@ -12,3 +12,4 @@ pub mod Outcome
 pub mod Parents
 pub mod Trap
 pub mod Unsettled
+pub mod Certificate

@@ -1,5 +1,5 @@
 -- What one pass comes to at an event: its sum and parent stay, or an arc gives it a sum that is strictly more. Assumes nothing.
-use Prim.Native.Nat.{ℕ, zero, suc, _+_, _≤_, _<_}
+use Prim.Native.Nat.{ℕ, zero, suc, _+_, _<_}
 use native.Mathlib.Nat.{add-zero, zero-add}
 use native.Mathlib.Decide.{ℕ-discrete}
 use native.Mathlib.Omega.{arith}
@@ -10,14 +10,14 @@ use mathlib.Core.List.{List, [], _∷_, List·Memᴰ, List·Memᴰ·head, List·
 use mathlib.Core.Option.{Option, none, some, Option·none-ne-some, Option·some-injective}
 use lib.IntN.{ℤ, _+ℤ_}
 use lib.Signed.{ltZ, _<ℤ_}
-use lib.ListN.{length, getD, set, replicate, length-set, length-replicate}
+use lib.ListN.{length, getD, set, length-set, length-replicate}
 use lib.Seq.{getD-set-same, getD-set-other}
 use Rattle.walks.specs.Walks.{Arc}
 use Rattle.walks.specs.Passes.{Sums, greater, plus, raise, raise-all, pass, sums}
 use Rattle.walks.specs.Parents.{Parents, raises, adopt, adopt-all, parents, no-arc}
 use Rattle.walks.specs.Solutions.{Between}
 use Rattle.walks.proofs.Greatest.{sums-length, raise-one-length}
-use Rattle.signed.proofs.Signed.{signed, sum}
+use Rattle.signed.proofs.Signed.{signed}
 
 -- what stands at a place of a list is one of it
 pub getD-mem : {A : Type 0} (l : List A) (i : ℕ) (d : A) → i < length l → List·Memᴰ (getD l i d) l

@@ -1,18 +1,17 @@
 -- What holds of a parent and of a chain of parents: followed back, the sums differ by at most what the arcs add. Assumes nothing.
 use Prim.Native.Nat.{ℕ, zero, suc, _+_, _≤_, _<_}
 use native.Mathlib.Omega.{arith}
-use mathlib.Core.Path.{_≡_, refl, ap, sym, _∙_, subst}
+use mathlib.Core.Path.{_≡_, refl, ap, sym, subst}
 use mathlib.Core.Logic.{_≢_, ⊎-elim}
 use mathlib.Core.List.{List, [], _∷_, List·Memᴰ, List·Memᴰ·not-nil, List·Memᴰ·cases-cons}
 use mathlib.Core.Option.{Option, none, some, Option·none-ne-some, Option·some-injective}
 use lib.IntN.{ℤ, pos, _+ℤ_}
 use lib.Signed.{_≤ℤ_, _<ℤ_}
-use lib.ListN.{length, getD, replicate, getD-replicate, List·getD-eq-default}
+use lib.ListN.{length, getD, replicate}
 use Rattle.walks.specs.Walks.{Arc}
-use Rattle.walks.specs.Passes.{Sums, at-start, sums}
+use Rattle.walks.specs.Passes.{Sums, sums}
 use Rattle.walks.specs.Parents.{Parents, parents, no-arc, before, times, back, trail}
 use Rattle.walks.specs.Solutions.{Between, Back, total}
-use Rattle.walks.proofs.Greatest.{no-sum}
 use Rattle.walks.proofs.Settling.{one-value}
 use Rattle.walks.proofs.Outcome.{arc, Outcome, same, rose, outcome, getD-mem}
 use Rattle.signed.proofs.Signed.{signed, sum}

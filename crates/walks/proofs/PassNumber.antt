@@ -47,7 +47,7 @@ agree-eq (x ∷ xs) (y ∷ ys) t =
     let both = and-yes (same-sum x y) (agree xs ys) t in
     ap₂ _∷_ (same-sum-eq x y (both .0)) (agree-eq xs ys (both .1))
 
-pub agree-refl : (xs : Sums) → T (agree xs xs)
+agree-refl : (xs : Sums) → T (agree xs xs)
 unfolding agree
 agree-refl [] = tt
 agree-refl (x ∷ xs) = yes-and (same-sum x x) (agree xs xs) (same-sum-refl x) (agree-refl xs)
@@ -58,6 +58,16 @@ module _ (arcs : List Arc) (n : ℕ) where
   -- the sums after k passes and after k + 1 are the same
   abbrev pub still : ℕ → Bool
   still k = agree (sums arcs n k) (sums arcs n (suc k))
+
+  -- sums that are the same at every event are the same
+  pub same-everywhere : (k : ℕ) → ((v : ℕ) → v < n → getD (sums arcs n k) v none ≡ getD (sums arcs n (suc k)) v none) → sums arcs n k ≡ sums arcs n (suc k)
+  same-everywhere k h =
+      ext-getD none (sums arcs n k) (sums arcs n (suc k)) (sums-length arcs n k ∙ sym (sums-length arcs n (suc k)))
+      (λ v l. h v (subst (λ (m : ℕ). v < m) (sums-length arcs n k) l))
+
+  -- and pass the test
+  pub agrees-of : (k : ℕ) → sums arcs n k ≡ sums arcs n (suc k) → T (still k)
+  agrees-of k e = subst (λ (s : Sums). T (agree (sums arcs n k) s)) e (agree-refl (sums arcs n k))
 
   pub record First (k j f : ℕ) : Type 0 where
     pub agrees : T (still j)
@@ -103,11 +113,8 @@ module _ (arcs : List Arc) (n : ℕ) where
 
     of-agree : (k : ℕ) → Agree arcs n k → T (still k)
     of-agree k h =
-        let e : sums arcs n k ≡ sums arcs n (suc k) =
-        ext-getD none (sums arcs n k) (sums arcs n (suc k)) (sums-length arcs n k ∙ sym (sums-length arcs n (suc k)))
-        (λ v l. same-at k v (getD (sums arcs n k) v none) (getD (sums arcs n (suc k)) v none) h (subst (λ (m : ℕ). v < m) (sums-length arcs n k) l) refl refl)
-        in
-        subst (λ (s : Sums). T (agree (sums arcs n k) s)) e (agree-refl (sums arcs n k))
+        agrees-of k (same-everywhere k
+        (λ v l. same-at k v (getD (sums arcs n k) v none) (getD (sums arcs n (suc k)) v none) h l refl refl))
 
     -- what the passes find is "the smallest k for which the greatest sums … agree", and it is below the number of events
     pub pass-number-is : (k : ℕ) → pass-number arcs n ≡ some k → PassNumber arcs n k × (k < n)

@@ -1,11 +1,11 @@
 -- How far the sums go: k arcs that add at most W either way give a sum of at most k * W either way. Assumes nothing.
-use Prim.Native.Nat.{ℕ, suc, _*_, _≤_}
+use Prim.Native.Nat.{ℕ, _*_, _≤_}
 use native.Mathlib.Nat.{mul-le-mul-right}
 use native.Mathlib.Omega.{arith}
 use mathlib.Core.Path.{_≡_}
 use mathlib.Core.List.{List, List·Memᴰ}
-use mathlib.Core.Option.{Option, none, some}
-use lib.IntN.{ℤ, _+ℤ_}
+use mathlib.Core.Option.{none, some}
+use lib.IntN.{ℤ}
 use lib.ListN.{getD}
 use Rattle.walks.specs.Walks.{Arc, Walk, stay, go, WalkWithin}
 use Rattle.walks.specs.Passes.{sums}

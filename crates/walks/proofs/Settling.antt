@@ -1,18 +1,18 @@
 -- The sums grow from pass to pass, and once a pass changes nothing no later one does: what is settled bounds every walk. Assumes nothing.
-use Prim.Native.Nat.{ℕ, zero, suc, _+_, _≤_, _<_}
+use Prim.Native.Nat.{ℕ, suc, _+_, _≤_, _<_}
 use native.Mathlib.Decide.{le-ind}
 use native.Mathlib.Omega.{arith}
 use mathlib.Core.Path.{_≡_, refl, ap, sym, _∙_, subst}
+use mathlib.Core.Logic.{_≢_}
 use mathlib.Core.List.{List}
 use mathlib.Core.Option.{Option, none, some, Option·none-ne-some, Option·some-injective}
 use lib.IntN.{ℤ, pos, _+ℤ_}
-use lib.Signed.{_≤ℤ_}
 use lib.ListN.{getD}
 use Rattle.walks.specs.Walks.{Arc, Walk, stay, go, WalkWithin}
 use Rattle.walks.specs.Passes.{Sums, pass, sums, pass-number, Settled, settled}
 use Rattle.walks.specs.Solutions.{Between}
-use Rattle.walks.proofs.Greatest.{AtLeast, at-least, least-of, EndsBelow, raise-all-keeps, none-greater, some-equal}
-use Rattle.walks.proofs.PassNumber.{First, first-is, agree-eq}
+use Rattle.walks.proofs.Greatest.{AtLeast, at-least, EndsBelow, raise-all-keeps, none-greater, some-equal}
+use Rattle.walks.proofs.PassNumber.{first-is, agree-eq, agrees-of}
 use Rattle.signed.proofs.Signed.{signed, sum}
 
 -- arcs between n events end at one of them
@@ -57,6 +57,11 @@ settled-is arcs n s e = by (pass-number arcs n) refl e
         let r : _≡_ {A = Settled} (record { passes = k; sums = sums arcs n k }) s = Option·some-injective _ _ f in
         subst (λ (z : Settled). (z .sums ≡ sums arcs n (z .passes)) × (pass-number arcs n ≡ some (z .passes)) × (sums arcs n (z .passes) ≡ sums arcs n (suc (z .passes)))) r
         (refl, q, agree-eq (sums arcs n k) (sums arcs n (suc k)) (first-is arcs n n 0 k q .agrees))
+
+-- each pass before that changes something
+pub changed-before : (arcs : List Arc) (n : ℕ) (s : Settled) → settled arcs n ≡ some s → (j : ℕ) → j < s .passes → sums arcs n j ≢ sums arcs n (suc j)
+unfolding pass-number
+changed-before arcs n s e j l q = first-is arcs n n 0 (s .passes) (settled-is arcs n s e .1) .before j (omega arith) l (agrees-of arcs n j q)
 
 -- a walk from the start to the start, and on by another
 round : (arcs : List Arc) (j k v : ℕ) (x w : ℤ) → Walk arcs j 0 x → Walk arcs k v w → (m : ℕ) × (y : ℤ) × Walk arcs m v y × (y ≡ x +ℤ w)

@@ -2,29 +2,24 @@
 -- Assumes nothing.
 use Prim.Native.Nat.{ℕ, zero, suc, _+_, _≤_, _<_}
 use native.Mathlib.Omega.{arith}
-use mathlib.Core.Path.{_≡_, refl, ap, sym, _∙_, subst}
+use mathlib.Core.Path.{_≡_, refl, sym, _∙_, subst}
 use mathlib.Core.Logic.{_≢_, ⊎-elim}
-use mathlib.Core.Bool.{Bool, true, false}
-use mathlib.Core.List.{List, [], _∷_, List·Memᴰ, List·Memᴰ·head, List·Memᴰ·tail, List·Memᴰ·not-nil, List·Memᴰ·cases-cons}
+use mathlib.Core.List.{List, [], _∷_, List·Memᴰ, List·Memᴰ·head, List·Memᴰ·tail}
 use mathlib.Core.Option.{Option, none, some, Option·none-ne-some, Option·some-injective}
 use mathlib.Core.Option as Opt
-use lib.Dec.{T}
-use lib.IntN.{ℤ, pos, _+ℤ_, ℤ-discrete}
-use lib.Signed.{_≤ℤ_, _<ℤ_}
+use lib.IntN.{ℤ, pos, _+ℤ_}
+use lib.Signed.{_<ℤ_}
 use lib.ListN.{length, getD}
-use lib.Seq.{ext-getD}
 use Rattle.walks.specs.Walks.{Arc, Walk, stay, go}
-use Rattle.walks.specs.Passes.{Sums, agree, at-start, sums, first-agreeing, pass-number, settled}
+use Rattle.walks.specs.Passes.{at-start, sums}
 use Rattle.walks.specs.Parents.{Parents, parents, no-arc, before, times, back, trail, Cyclic, Trapped}
-use Rattle.walks.specs.Solutions.{Solves, Between, Back, NoneTwice, total, PositiveCycle}
-use Rattle.walks.proofs.Greatest.{AtLeast, no-sum, none-greater, sums-length}
-use Rattle.walks.proofs.PassNumber.{still, agree-refl}
+use Rattle.walks.specs.Solutions.{Between, Back, total}
+use Rattle.walks.proofs.Greatest.{AtLeast, no-sum, none-greater}
 use Rattle.walks.proofs.Settling.{ends-below}
-use Rattle.walks.proofs.Search.{First, found, nowhere, first, sure, not?}
+use Rattle.walks.proofs.Search.{First, found, nowhere, first}
 use Rattle.walks.proofs.Orbit.{times-add, lands, forever}
 use Rattle.walks.proofs.Outcome.{arc, Outcome, same, rose, outcome, getD-mem}
-use Rattle.walks.proofs.Parents.{some-parent, sum-at, parent-at, back-at, trail-at, last, Held, held, rooted, Chain, chain}
-use Rattle.walks.proofs.Cycle.{cycle-excludes}
+use Rattle.walks.proofs.Parents.{some-parent, sum-at, parent-at, held, rooted, Chain, chain}
 use Rattle.signed.proofs.Signed.{signed, sum, lt-or-le}
 
 none? : (o : Option ℕ) → Dec (o ≡ none)

@@ -12,13 +12,11 @@ use lib.Dec.{T}
 use lib.IntN.{ℤ, pos, ℤ-discrete}
 use lib.Signed.{_<ℤ_}
 use lib.ListN.{length, getD}
-use lib.Seq.{ext-getD}
 use Rattle.walks.specs.Walks.{Arc}
-use Rattle.walks.specs.Passes.{Sums, agree, sums, first-agreeing, pass-number, Settled, settled}
-use Rattle.walks.specs.Parents.{Parents, parents, no-arc, times, before, back, trail, Trapped}
+use Rattle.walks.specs.Passes.{sums, first-agreeing, pass-number, Settled, settled}
+use Rattle.walks.specs.Parents.{Parents, parents, times, back, trail, Trapped}
 use Rattle.walks.specs.Solutions.{Solves, Between, Back, NoneTwice, total, PositiveCycle}
-use Rattle.walks.proofs.Greatest.{sums-length}
-use Rattle.walks.proofs.PassNumber.{still, agree-refl}
+use Rattle.walks.proofs.PassNumber.{still, same-everywhere, agrees-of}
 use Rattle.walks.proofs.Search.{First, found, nowhere, first, sure, not?}
 use Rattle.walks.proofs.Outcome.{arc}
 use Rattle.walks.proofs.Parents.{back-at, trail-at}
@@ -123,15 +121,6 @@ module _ (arcs : List Arc) (n : ℕ) where
       by none e = refl
       by (some k) e = absurd (Option·none-ne-some _ (sym e))
 
-  -- sums that are the same at every event pass the test
-  all-same : (k : ℕ) → ((v : ℕ) → v < n → getD (sums arcs n (suc k)) v none ≡ getD (sums arcs n k) v none) → T (still arcs n k)
-  all-same k h =
-      let e : sums arcs n k ≡ sums arcs n (suc k) =
-      ext-getD none (sums arcs n k) (sums arcs n (suc k)) (sums-length arcs n k ∙ sym (sums-length arcs n (suc k)))
-      (λ v l. sym (h v (subst (λ (m : ℕ). v < m) (sums-length arcs n k) l)))
-      in
-      subst (λ (s : Sums). T (agree (sums arcs n k) s)) e (agree-refl (sums arcs n k))
-
   same? : (k v : ℕ) → Dec (getD (sums arcs n (suc k)) v none ≡ getD (sums arcs n k) v none)
   same? k v = Opt.discrete ℤ-discrete (getD (sums arcs n (suc k)) v none) (getD (sums arcs n k) v none)
 
@@ -143,7 +132,7 @@ module _ (arcs : List Arc) (n : ℕ) where
         by : (k : ℕ) → suc k ≡ n → First (λ v. ¬ (getD (sums arcs n (suc k)) v none ≡ getD (sums arcs n k) v none)) n
             → (v : ℕ) × Trapped arcs n (parents arcs n (suc k)) v
         by k q (found v l h b) = (v, raised-trapped arcs n p between k v q l h)
-        by k q (nowhere h) = absurd (never n 0 (unsettled-none e) k (omega arith) (omega arith) (all-same k (λ v l. sure (h v l) (same? k v))))
+        by k q (nowhere h) = absurd (never n 0 (unsettled-none e) k (omega arith) (omega arith) (agrees-of arcs n k (same-everywhere arcs n k (λ v l. sym (sure (h v l) (same? k v))))))
 
         at : (k : ℕ) → suc k ≡ n → (v : ℕ) × Trapped arcs n (parents arcs n n) v
         at k q =
