@@ -89,9 +89,9 @@ pub report-slice : (n : ℕ) (ts : Tables) (p : Plan) (log : List Report) (b : B
     → replay p (first-book p) log ≡ some b
     → report (plan-slice n ts log) r
     ≡ record {
-        answer = book-answer p b r;
-        plan = elim (acceptable p b r) [ true ↦ plan-slice n ts (log ++ (r ∷ [])) | false ↦ plan-slice n ts log ];
-      }
+      answer = book-answer p b r;
+      plan = elim (acceptable p b r) [ true ↦ plan-slice n ts (log ++ (r ∷ [])) | false ↦ plan-slice n ts log ];
+    }
 unfolding report-held
 report-slice n ts p log b r h ej er =
     let s : List ℕ = plan-slice n ts log in
