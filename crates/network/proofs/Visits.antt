@@ -139,3 +139,69 @@ visit-held (c ∷ cs) v m =
         let next : v .step ≡ suc i = omega (arith, s) in
         (omega (arith, s, l), ap (λ (k : ℕ). getD (c ∷ cs) k 0) next ∙ e))
     (List·Memᴰ·cases-cons m)
+
+-- ---- after the last visit
+
+-- the last of some visits
+abbrev final : Visit → List Visit → Visit
+final x [] = x
+final x (y ∷ ys) = final y ys
+
+-- it is the first or one of the others
+final-is : (x : Visit) (xs : List Visit) → (final x xs ≡ x) ⊎ List·Memᴰ (final x xs) xs
+final-is x [] = inl refl
+final-is x (y ∷ ys) = inr (⊎-elim (λ e. List·Memᴰ·head e) (λ m. List·Memᴰ·tail m) (final-is y ys))
+
+-- it stands at the last place
+final-at : (x : Visit) (xs : List Visit) (i : ℕ) (d : Visit) → suc i ≡ length (x ∷ xs) → getD (x ∷ xs) i d ≡ final x xs
+final-at x [] zero d e = refl
+final-at x [] (suc i) d e = absurd (omega arith)
+final-at x (y ∷ ys) zero d e = absurd (omega arith)
+final-at x (y ∷ ys) (suc i) d e = final-at y ys i d (omega arith)
+
+-- one that is not later than step t is the first, where the others are later than t
+final-early : (ds : List ℕ) (c t : ℕ) (x : Visit) → final x (visits-after c (suc t) ds) .step ≤ t → final x (visits-after c (suc t) ds) ≡ x
+final-early ds c t x l =
+    ⊎-elim (λ e. e)
+    (λ m. let (i, s, _, _) = visits-after-held ds c (suc t) (final x (visits-after c (suc t) ds)) m in absurd (omega (arith, s, l)))
+    (final-is x (visits-after c (suc t) ds))
+
+-- from the last visit on the path stays in its cell
+final-stays : (ds : List ℕ) (c t : ℕ) (x : Visit) → x .cell ≡ c → (k : ℕ) → k < length ds → final x (visits-after c t ds) .step ≤ t + k
+    → getD ds k 0 ≡ final x (visits-after c t ds) .cell
+unfolding visits-after
+final-stays [] c t x e k l h = absurd (omega arith)
+final-stays (d ∷ ds) c t x e k l h = by (eqb c d) refl k l h (λ v g. final-stays ds d (suc t) v g)
+  where
+    -- at once, or later
+    at : (v : Visit) → v .cell ≡ d → (k : ℕ) → k < length (d ∷ ds) → final v (visits-after d (suc t) ds) .step ≤ t + k
+        → ((k : ℕ) → k < length ds → final v (visits-after d (suc t) ds) .step ≤ suc t + k → getD ds k 0 ≡ final v (visits-after d (suc t) ds) .cell)
+        → getD (d ∷ ds) k 0 ≡ final v (visits-after d (suc t) ds) .cell
+    at v g zero l h rest = sym g ∙ ap (λ (w : Visit). w .cell) (sym (final-early ds d t v (omega (arith, h))))
+    at v g (suc k) l h rest = rest k (omega (arith, l)) (omega (arith, h))
+
+    by : (b : Bool) → eqb c d ≡ b → (k : ℕ) → k < length (d ∷ ds)
+        → final x (cond b (visits-after d (suc t) ds) (record { step = t; cell = d } ∷ visits-after d (suc t) ds)) .step ≤ t + k
+        → ((v : Visit) → v .cell ≡ d → (k : ℕ) → k < length ds → final v (visits-after d (suc t) ds) .step ≤ suc t + k
+        → getD ds k 0 ≡ final v (visits-after d (suc t) ds) .cell)
+        → getD (d ∷ ds) k 0 ≡ final x (cond b (visits-after d (suc t) ds) (record { step = t; cell = d } ∷ visits-after d (suc t) ds)) .cell
+    by true q k l h rest = let g : x .cell ≡ d = e ∙ eqb→eq c d (subst T (sym q) tt) in at x g k l h (rest x g)
+    by false q k l h rest =
+        let v : Visit = record { step = t; cell = d } in at v refl k l h (rest v refl)
+
+pub last-stays : (q : List ℕ) (i : ℕ) (d : Visit) → suc i ≡ length (visits-of q) → (s : ℕ) → getD (visits-of q) i d .step ≤ s → s < length q
+    → at-step s q ≡ getD (visits-of q) i d .cell
+unfolding visits-of at-step
+last-stays [] i d e s h l = absurd (omega arith)
+last-stays (c ∷ cs) i d e s h l =
+    subst (λ (v : Visit). v .step ≤ s → getD (c ∷ cs) s 0 ≡ v .cell) (sym (final-at x xs i d e)) (at s l) h
+  where
+    x : Visit
+    x = record { step = 0; cell = c }
+
+    xs : List Visit
+    xs = visits-after c 1 cs
+
+    at : (s : ℕ) → s < length (c ∷ cs) → final x xs .step ≤ s → getD (c ∷ cs) s 0 ≡ final x xs .cell
+    at zero l h = ap (λ (v : Visit). v .cell) (sym (final-early cs c 0 x h))
+    at (suc s) l h = final-stays cs c 1 x refl s (omega (arith, l)) (omega (arith, h))
