@@ -205,3 +205,88 @@ last-stays (c ∷ cs) i d e s h l =
     at : (s : ℕ) → s < length (c ∷ cs) → final x xs .step ≤ s → getD (c ∷ cs) s 0 ≡ final x xs .cell
     at zero l h = ap (λ (v : Visit). v .cell) (sym (final-early cs c 0 x h))
     at (suc s) l h = final-stays cs c 1 x refl s (omega (arith, l)) (omega (arith, h))
+
+-- ---- where event-of finds a visit's points
+
+-- a test that fails is passed over
+eqb-later : (t s : ℕ) → s < t → eqb t s ≡ false
+eqb-later t s l = by (eqb t s) refl
+  where
+    by : (b : Bool) → eqb t s ≡ b → b ≡ false
+    by true e = absurd (omega (arith, eqb→eq t s (subst T (sym e) tt), l))
+    by false e = refl
+
+-- one that compares a number with itself is passed
+eqb-same : (t : ℕ) → eqb t t ≡ true
+eqb-same t = by (eqb t t) (eqb-refl t)
+  where
+    by : (b : Bool) → T b → b ≡ true
+    by true h = refl
+    by false h = absurd h
+
+leave-at : (x : Visit) (xs : List Visit) (e i : ℕ) (d : Visit) → Rises step-of x xs → i < length xs
+    → find-point leave (getD (x ∷ xs) i d .step) e (points-after x xs) ≡ some (e + 3 * i)
+unfolding find-point points-after same-kind point
+leave-at x [] e i d h l = absurd (omega arith)
+leave-at x (y ∷ ys) e zero d h l = rw (eqb-same (x .step)) (ap some (omega arith))
+leave-at x (y ∷ ys) e (suc i) d h l =
+    let later : x .step < getD (y ∷ ys) i d .step = rises-first step-of x (y ∷ ys) i d h (omega arith) in
+    rw (eqb-later (getD (y ∷ ys) i d .step) (x .step) later)
+    (leave-at y ys (suc (suc (suc e))) i d (h .1) (omega arith) ∙ ap some (omega arith))
+
+approach-at : (x : Visit) (xs : List Visit) (e i : ℕ) (d : Visit) → Rises step-of x xs → i < length xs
+    → find-point approach (getD xs i d .step) e (points-after x xs) ≡ some (e + (3 * i + 1))
+unfolding find-point points-after same-kind point
+approach-at x [] e i d h l = absurd (omega arith)
+approach-at x (y ∷ ys) e zero d h l = rw (eqb-same (y .step)) (ap some (omega arith))
+approach-at x (y ∷ ys) e (suc i) d h l =
+    let later : y .step < getD ys i d .step = rises-first step-of y ys i d (h .1) (omega arith) in
+    rw (eqb-later (getD ys i d .step) (y .step) later)
+    (approach-at y ys (suc (suc (suc e))) i d (h .1) (omega arith) ∙ ap some (omega arith))
+
+entry-at : (x : Visit) (xs : List Visit) (e i : ℕ) (d : Visit) → Rises step-of x xs → i < length xs
+    → find-point entry (getD xs i d .step) e (points-after x xs) ≡ some (e + (3 * i + 2))
+unfolding find-point points-after same-kind point
+entry-at x [] e i d h l = absurd (omega arith)
+entry-at x (y ∷ ys) e zero d h l = rw (eqb-same (y .step)) (ap some (omega arith))
+entry-at x (y ∷ ys) e (suc i) d h l =
+    let later : y .step < getD ys i d .step = rises-first step-of y ys i d (h .1) (omega arith) in
+    rw (eqb-later (getD ys i d .step) (y .step) later)
+    (entry-at y ys (suc (suc (suc e))) i d (h .1) (omega arith) ∙ ap some (omega arith))
+
+-- the visits of a plan's route
+pub route-rises : (p : Plan) (r : Route) → List·Memᴰ r (routes-of p) → Rising step-of (r .visits)
+route-rises p r m = let o : Origin p r = origin p r m in subst (Rising step-of) (sym (o .visited)) (visits-rise (getD (p .paths) (o .place) []))
+
+-- the i-th visit's leave point, where there is a visit after it
+pub leave-of : (r : Route) → Rising step-of (r .visits) → (i : ℕ) (d : Visit) → suc i < length (r .visits)
+    → event-of leave r (getD (r .visits) i d) ≡ some (r .first + (3 * i + 1))
+unfolding event-of route-points points find-point same-kind point
+leave-of r h i d l = by (r .visits) h l
+  where
+    by : (vs : List Visit) → Rising step-of vs → suc i < length vs → find-point leave (getD vs i d .step) (r .first) (points vs) ≡ some (r .first + (3 * i + 1))
+    by [] h l = absurd (omega arith)
+    by (x ∷ xs) h l = leave-at x xs (suc (r .first)) i d h (omega arith) ∙ ap some (omega arith)
+
+-- the approach point of the visit after the i-th
+pub approach-of : (r : Route) → Rising step-of (r .visits) → (i : ℕ) (d : Visit) → suc i < length (r .visits)
+    → event-of approach r (getD (r .visits) (suc i) d) ≡ some (r .first + (3 * i + 2))
+unfolding event-of route-points points find-point same-kind point
+approach-of r h i d l = by (r .visits) h l
+  where
+    by : (vs : List Visit) → Rising step-of vs → suc i < length vs → find-point approach (getD vs (suc i) d .step) (r .first) (points vs) ≡ some (r .first + (3 * i + 2))
+    by [] h l = absurd (omega arith)
+    by (x ∷ xs) h l = approach-at x xs (suc (r .first)) i d h (omega arith) ∙ ap some (omega arith)
+
+-- the i-th visit's entry
+pub entry-of : (r : Route) → Rising step-of (r .visits) → (i : ℕ) (d : Visit) → i < length (r .visits)
+    → event-of entry r (getD (r .visits) i d) ≡ some (r .first + 3 * i)
+unfolding event-of route-points points find-point same-kind point
+entry-of r h i d l = by (r .visits) h i l
+  where
+    by : (vs : List Visit) → Rising step-of vs → (i : ℕ) → i < length vs → find-point entry (getD vs i d .step) (r .first) (points vs) ≡ some (r .first + 3 * i)
+    by [] h i l = absurd (omega arith)
+    by (x ∷ xs) h zero l = rw (eqb-same (x .step)) (ap some (omega arith))
+    by (x ∷ xs) h (suc i) l =
+        rw (eqb-later (getD xs i d .step) (x .step) (rises-first step-of x xs i d h (omega arith)))
+        (entry-at x xs (suc (r .first)) i d h (omega arith) ∙ ap some (omega arith))
