@@ -3,8 +3,10 @@ use Prim.Native.Nat.{ℕ, zero, suc, _+_, _≤_, _<_}
 use native.Mathlib.Nat.{eq-or-lt-of-le}
 use native.Mathlib.Omega.{arith}
 use mathlib.Core.Path.{_≡_, refl, ap, sym, _∙_, subst}
-use mathlib.Core.Logic.{_⊎_, ⊎-elim}
+use mathlib.Core.Logic.{_⊎_, inl, inr, ⊎-elim}
+use mathlib.Core.Bool.{Bool, true, false}
 use mathlib.Core.List.{List, [], _∷_, _++_, flatMap, List·Memᴰ, List·Memᴰ·head, List·Memᴰ·tail, List·Memᴰ·not-nil, List·Memᴰ·cases-cons, List·Memᴰ·append-cases, Memᴰ·append-left, Memᴰ·append-right}
+use lib.Dec.{ltb, ltb→lt, nltb→le}
 use lib.ListN.{length, getD}
 use Rattle.network.specs.Events.{places}
 
@@ -68,3 +70,13 @@ unfolding places
 in-places e [] n l h = absurd (omega arith)
 in-places e (x ∷ xs) n l h =
     ⊎-elim (λ q. List·Memᴰ·head (sym q)) (λ k. List·Memᴰ·tail (in-places (suc e) xs n k (omega (arith, h)))) (eq-or-lt-of-le l)
+
+-- ---- one of two
+
+-- a number is below another, or not
+pub below-or-not : (i j : ℕ) → (i < j) ⊎ (j ≤ i)
+below-or-not i j = by (ltb i j) refl
+  where
+    by : (t : Bool) → ltb i j ≡ t → (i < j) ⊎ (j ≤ i)
+    by true e = inl (ltb→lt i j (rw e tt))
+    by false e = inr (nltb→le i j (rw e tt))
