@@ -1,30 +1,57 @@
 -- The members of lists that are made from others. Assumes nothing.
-use mathlib.Core.Path.{_≡_, refl, ap, subst}
+use Prim.Native.Nat.{ℕ, zero, suc, _<_}
+use native.Mathlib.Omega.{arith}
+use mathlib.Core.Path.{_≡_, refl, sym, subst}
 use mathlib.Core.Logic.{⊎-elim}
-use mathlib.Core.List.{List, [], _∷_, _++_, map, flatMap, List·Memᴰ, List·Memᴰ·head, List·Memᴰ·tail, List·Memᴰ·not-nil, List·Memᴰ·cases-cons, List·Memᴰ·append-cases, Memᴰ·append-left, Memᴰ·append-right}
+use mathlib.Core.List.{List, [], _∷_, tail, flatMap, List·Memᴰ, List·Memᴰ·head, List·Memᴰ·tail, List·Memᴰ·not-nil, List·Memᴰ·cases-cons, List·Memᴰ·append-cases, Memᴰ·append-left, Memᴰ·append-right}
+use lib.ListN.{length, getD, drop}
 
-module _ {A B : Type 0} where
-  -- of a list with f applied to each: y is f x for an x of the first list
-  pub map-member : (f : A → B) (l : List A) (y : B) → List·Memᴰ y (map f l) → (x : A) × List·Memᴰ x l × (y ≡ f x)
-  map-member f [] y m = absurd (List·Memᴰ·not-nil m)
-  map-member f (x ∷ xs) y m =
-      ⊎-elim (λ e. (x, List·Memᴰ·head refl, e)) (λ t. let (z, k, e) = map-member f xs y t in (z, List·Memᴰ·tail k, e)) (List·Memᴰ·cases-cons m)
+-- ---- lists put together of lists
 
-  pub member-map : (f : A → B) {l : List A} {x : A} → List·Memᴰ x l → List·Memᴰ (f x) (map f l)
-  member-map f (List·Memᴰ·head e) = List·Memᴰ·head (ap f e)
-  member-map f (List·Memᴰ·tail m) = List·Memᴰ·tail (member-map f m)
+-- what stands in one of the lists stands in all of them together
+pub to-flat : {A B : Type 0} (f : A → List B) (l : List A) (a : A) (b : B) → List·Memᴰ a l → List·Memᴰ b (f a) → List·Memᴰ b (flatMap f l)
+unfolding flatMap
+to-flat f [] a b m n = absurd (List·Memᴰ·not-nil m)
+to-flat {A} {B} f (x ∷ xs) a b m n =
+    ⊎-elim
+    (λ e. Memᴰ·append-left (flatMap f xs) (subst (λ (y : A). List·Memᴰ b (f y)) e n))
+    (λ t. Memᴰ·append-right (f x) (to-flat f xs a b t n))
+    (List·Memᴰ·cases-cons m)
 
-  -- of lists, one for each x, one after the other
-  pub flatMap-member : (f : A → List B) (l : List A) (y : B) → List·Memᴰ y (flatMap f l) → (x : A) × List·Memᴰ x l × List·Memᴰ y (f x)
-  unfolding flatMap
-  flatMap-member f [] y m = absurd (List·Memᴰ·not-nil m)
-  flatMap-member f (x ∷ xs) y m =
-      ⊎-elim (λ k. (x, List·Memᴰ·head refl, k)) (λ t. let (z, k, h) = flatMap-member f xs y t in (z, List·Memᴰ·tail k, h))
-      (List·Memᴰ·append-cases (f x) m)
+-- what stands in all of them together stands in one of them
+pub of-flat : {A B : Type 0} (f : A → List B) (l : List A) (b : B) → List·Memᴰ b (flatMap f l) → (a : A) × List·Memᴰ a l × List·Memᴰ b (f a)
+unfolding flatMap
+of-flat f [] b m = absurd (List·Memᴰ·not-nil m)
+of-flat {A} {B} f (x ∷ xs) b m =
+    ⊎-elim
+    (λ n. (x, List·Memᴰ·head refl, n))
+    (λ t. let (a, here, there) = of-flat f xs b t in (a, List·Memᴰ·tail here, there))
+    (List·Memᴰ·append-cases (f x) m)
 
-  pub member-flatMap : (f : A → List B) (l : List A) (x : A) (y : B) → List·Memᴰ x l → List·Memᴰ y (f x) → List·Memᴰ y (flatMap f l)
-  unfolding flatMap
-  member-flatMap f [] x y m k = absurd (List·Memᴰ·not-nil m)
-  member-flatMap f (z ∷ zs) x y m k =
-      ⊎-elim (λ (e : x ≡ z). Memᴰ·append-left (flatMap f zs) (subst (λ (w : A). List·Memᴰ y (f w)) e k))
-      (λ t. Memᴰ·append-right (f z) (member-flatMap f zs x y t k)) (List·Memᴰ·cases-cons m)
+-- ---- places
+
+-- what stands at a place is there
+pub at-place : {A : Type 0} (l : List A) (i : ℕ) (d : A) → i < length l → List·Memᴰ (getD l i d) l
+at-place [] i d h = absurd (omega arith)
+at-place (x ∷ xs) zero d h = List·Memᴰ·head refl
+at-place (x ∷ xs) (suc i) d h = List·Memᴰ·tail (at-place xs i d (omega arith))
+
+-- and what is there stands at a place
+pub place-of : {A : Type 0} (l : List A) (a d : A) → List·Memᴰ a l → (i : ℕ) × (i < length l) × (getD l i d ≡ a)
+place-of [] a d m = absurd (List·Memᴰ·not-nil m)
+place-of (x ∷ xs) a d m =
+    ⊎-elim
+    (λ e. (0, omega arith, sym e))
+    (λ t. let (i, h, e) = place-of xs a d t in (suc i, omega (arith, h), e))
+    (List·Memᴰ·cases-cons m)
+
+-- ---- a list without its first
+
+pub of-drop : {A : Type 0} (k : ℕ) (l : List A) (x : A) → List·Memᴰ x (drop k l) → List·Memᴰ x l
+of-drop zero l x m = m
+of-drop (suc k) [] x m = m
+of-drop (suc k) (y ∷ ys) x m = List·Memᴰ·tail (of-drop k ys x m)
+
+pub of-tail : {A : Type 0} (l : List A) (x : A) → List·Memᴰ x (tail l) → List·Memᴰ x l
+of-tail [] x m = m
+of-tail (y ∷ ys) x m = List·Memᴰ·tail m

@@ -4,7 +4,7 @@ use native.Mathlib.Omega.{arith}
 use mathlib.Core.Path.{_≡_, refl, ap, ap₂, sym, _∙_, subst}
 use mathlib.Core.Logic.{⊎-elim, _≢_}
 use mathlib.Core.Bool.{Bool, true, false, _&&_, _||_, not, cond}
-use mathlib.Core.List.{List, [], _∷_, _++_, map, List·Memᴰ, List·Memᴰ·head, List·Memᴰ·tail, List·Memᴰ·not-nil, List·Memᴰ·cases-cons, List·Memᴰ·append-cases, List·Memᴰ·eq-of-singleton, Memᴰ·append-left, Memᴰ·append-right}
+use mathlib.Core.List.{List, [], _∷_, _++_, map, List·Memᴰ, List·Memᴰ·head, List·Memᴰ·tail, List·Memᴰ·not-nil, List·Memᴰ·cases-cons, List·Memᴰ·append-cases, List·Memᴰ·eq-of-singleton, Memᴰ·append-left, Memᴰ·append-right, Memᴰ·of-map}
 use mathlib.Core.Option.{Option, none, some, Option·none-ne-some, Option·some-injective}
 use lib.Dec.{T, eqb, eqb→eq, eqb-refl}
 use lib.IntN.{ℤ, pos, negℤ, negℤ-negℤ, _+ℤ_}
@@ -12,7 +12,7 @@ use lib.Signed.{ltZ, ltZ-yes, _≤ℤ_, _<ℤ_}
 use lib.ListN.{length}
 use mir.Facts.{and-yes, yes-and}
 use Rattle.signed.proofs.Signed.{signed, sum, difference, neg-up, neg-dn}
-use Rattle.lists.proofs.Members.{map-member, flatMap-member}
+use Rattle.lists.proofs.Members.{of-flat}
 use Rattle.floor.specs.Plan.{Plan}
 use Rattle.network.specs.Bounds.{Bound, bounds}
 use Rattle.network.specs.Meaning.{Times, Meets}
@@ -65,7 +65,7 @@ module _ (p : Plan) (b : Book) (kept : KeptBook p b) (few : length (bounds p) �
   arc-item : (a : Arc) → List·Memᴰ a (arcs p b) → (i : Item) × (leg-of (numbered-bounds p b) i ≡ some (mirror a))
   unfolding arcs
   arc-item a m =
-      let (c, h, w) = flatMap-member ways (all-bounds p b) a m in
+      let (c, h, w) = of-flat ways (all-bounds p b) a m in
       let (k, l) = has-number p b kept few c h in
       let (d, e) = way-leg c a w in
       (record { number = k; direction = d }, l .leads d ∙ e)
@@ -192,8 +192,8 @@ pub numbered-bound : (p : Plan) (b : Book) (x : Numbered) → List·Memᴰ x (nu
 unfolding numbered-bounds all-bounds added-numbered
 numbered-bound p b x m =
     ⊎-elim (λ h. Memᴰ·append-left (added-bounds p b) (own-bound (bounds p) 0 x h))
-    (λ h. let (c, k, e) = map-member (λ (b : Bound). record { number = 10_000 + b .to; bound = b }) (added-bounds p b) x h in
-    Memᴰ·append-right (bounds p) (subst (λ (y : Numbered). List·Memᴰ (y .bound) (added-bounds p b)) (sym e) k))
+    (λ h. let (c, k, e) = Memᴰ·of-map (λ (b : Bound). record { number = 10_000 + b .to; bound = b }) (added-bounds p b) h in
+    Memᴰ·append-right (bounds p) (subst (λ (y : Numbered). List·Memᴰ (y .bound) (added-bounds p b)) e k))
     (List·Memᴰ·append-cases (numbered 0 (bounds p)) m)
 
 -- what a list of items says, taken apart

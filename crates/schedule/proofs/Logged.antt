@@ -10,7 +10,7 @@ use lib.IntN.{ℤ, pos, negℤ, _+ℤ_}
 use lib.Signed.{_≤ℤ_}
 use lib.ListN.{length, drop}
 use Rattle.signed.proofs.Signed.{signed, sum, neg-up, neg-dn, Within}
-use Rattle.lists.proofs.Members.{flatMap-member, member-flatMap}
+use Rattle.lists.proofs.Members.{to-flat, of-flat, of-drop}
 use Rattle.floor.specs.Refusal.{accepted}
 use Rattle.floor.specs.Plan.{Plan}
 use Rattle.floor.specs.Tables.{Tables}
@@ -43,11 +43,6 @@ has-points ts p e r m =
     subst (λ (vs : List Visit). 1 ≤ length (points vs)) (sym q) (omega arith)
 
 -- ---- where the points of a cart lie
-
-drop-member : (k : ℕ) (l : List ℕ) (x : ℕ) → List·Memᴰ x (drop k l) → List·Memᴰ x l
-drop-member zero l x m = m
-drop-member (suc k) [] x m = m
-drop-member (suc k) (y ∷ ys) x m = List·Memᴰ·tail (drop-member k ys x m)
 
 passed-member : (es ts : List ℕ) (x : Passed) → List·Memᴰ x (passed-at es ts) → List·Memᴰ (x .event) es × List·Memᴰ (x .time) ts
 unfolding passed-at
@@ -97,7 +92,7 @@ module _ (p : Plan) (b : Book) (l : Logged p b) where
       let k : AtCart (b .clock) route-to-pass (routes-of p) (b .passed) e = at-cart route-to-pass e (logged-kept .carts) m in
       record {
         from-start = refl;
-        to-event = event-there (k .route) (k .of-plan) e (drop-member (length (k .times)) (route-events (k .route)) e (k .here));
+        to-event = event-there (k .route) (k .of-plan) e (of-drop (length (k .times)) (route-events (k .route)) e (k .here));
         lo-most = logged-kept .in-range;
         hi-most = λ h q. absurd (Option·none-ne-some _ q);
       }
@@ -131,7 +126,7 @@ module _ (p : Plan) (b : Book) (l : Logged p b) where
   pub arcs-between : Between (arcs p b) (event-count p)
   unfolding arcs
   arcs-between a m =
-      let (c, k, w) = flatMap-member ways (all-bounds p b) a m in
+      let (c, k, w) = of-flat ways (all-bounds p b) a m in
       let (f, t) = bound-ends c k in
       ⊎-elim (λ h. (omega (arith, h .0, f), omega (arith, h .1, t))) (λ h. (omega (arith, h .0, t), omega (arith, h .1, f))) (way-ends c a w)
 
@@ -148,7 +143,7 @@ module _ (p : Plan) (b : Book) (l : Logged p b) where
   unfolding arcs all-bounds ways forward
   one-on c m r =
       let w : Walk (arcs p b) (suc (r .count)) (c .to) (r .total +ℤ pos (c .lo)) =
-      go (forward c) (member-flatMap ways (all-bounds p b) c (forward c) (Memᴰ·append-left (added-bounds p b) m) (List·Memᴰ·head refl)) (r .walk) in
+      go (forward c) (to-flat ways (all-bounds p b) c (forward c) (Memᴰ·append-left (added-bounds p b) m) (List·Memᴰ·head refl)) (r .walk) in
       record { count = suc (r .count); total = r .total +ℤ pos (c .lo); walk = w; not-below = omega (signed, r .not-below, sum (r .total) (pos (c .lo))) }
 
   reach : (m e : ℕ) → e < m → e < event-count p → Reached e
@@ -186,6 +181,6 @@ module _ (p : Plan) (b : Book) (l : Logged p b) where
   pub arcs-within : (a : Arc) → List·Memᴰ a (arcs p b) → Within 1_000_000_000_000 (a .adds)
   unfolding arcs
   arcs-within a m =
-      let (c, k, w) = flatMap-member ways (all-bounds p b) a m in
+      let (c, k, w) = of-flat ways (all-bounds p b) a m in
       let (x, y) = bound-most c k in
       way-within c x y a w

@@ -4,11 +4,10 @@ use native.Mathlib.Omega.{arith}
 use mathlib.Core.Path.{_≡_, refl, ap, ap₂, sym, _∙_, subst}
 use mathlib.Core.Logic.{⊎-elim}
 use mathlib.Core.Bool.{Bool, true, false, cond}
-use mathlib.Core.List.{List, [], _∷_, _++_, map, tail, append-assoc, List·Memᴰ, List·Memᴰ·head, List·Memᴰ·tail, List·Memᴰ·not-nil, List·Memᴰ·cases-cons, List·Memᴰ·append-cases}
+use mathlib.Core.List.{List, [], _∷_, _++_, map, tail, append-assoc, List·Memᴰ, List·Memᴰ·head, List·Memᴰ·tail, List·Memᴰ·not-nil, List·Memᴰ·cases-cons, List·Memᴰ·append-cases, Memᴰ·map}
 use mathlib.Core.Option.{Option}
 use lib.Dec.{T, eqb, eqb→eq, eqb-refl}
 use lib.ListN.{length, drop}
-use Rattle.lists.proofs.Members.{member-map}
 use Rattle.floor.specs.Plan.{Cart, Plan}
 use Rattle.network.specs.Events.{Route, Point, points, visits-of, routes, routes-of, route-points, route-events, places}
 use Rattle.network.specs.Bounds.{Bound, bounds}
@@ -162,7 +161,7 @@ added-leads [] e c r m = absurd (List·Memᴰ·not-nil m)
 added-leads (b ∷ bs) e c r m =
     ⊎-elim
     (λ (q : c ≡ b). subst (λ (x : Bound). Leads (added-numbered (b ∷ bs)) c (10_000 + x .to)) (sym q) (lead-here (record { number = 10_000 + b .to; bound = b }) (added-numbered bs) c q))
-    (λ t. let l : suc (b .to) ≤ c .to = rising-member (ends bs) (suc (b .to)) (c .to) (r .1) (member-map (λ (x : Bound). x .to) t) in
+    (λ t. let l : suc (b .to) ≤ c .to = rising-member (ends bs) (suc (b .to)) (c .to) (r .1) (Memᴰ·map (λ (x : Bound). x .to) t) in
     lead-on (record { number = 10_000 + b .to; bound = b }) (added-numbered bs) c (10_000 + c .to) (λ (q : 10_000 + b .to ≡ 10_000 + c .to). omega arith) (added-leads bs (suc (b .to)) c (r .1) t))
     (List·Memᴰ·cases-cons m)
 

@@ -3,13 +3,13 @@ use Prim.Native.Nat.{ℕ, suc, _≤_}
 use native.Mathlib.Omega.{arith}
 use mathlib.Core.Path.{_≡_, refl, ap, sym, _∙_, subst}
 use mathlib.Core.Logic.{_↔_, _⊎_, inl, inr, ⊎-elim}
-use mathlib.Core.List.{List, [], _∷_, _++_, map, flatMap, tail, List·Memᴰ, List·Memᴰ·head, List·Memᴰ·tail, List·Memᴰ·not-nil, List·Memᴰ·cases-cons, List·Memᴰ·append-cases, List·Memᴰ·eq-of-singleton, Memᴰ·append-left, Memᴰ·append-right}
+use mathlib.Core.List.{List, [], _∷_, _++_, map, flatMap, tail, List·Memᴰ, List·Memᴰ·head, List·Memᴰ·tail, List·Memᴰ·not-nil, List·Memᴰ·cases-cons, List·Memᴰ·append-cases, List·Memᴰ·eq-of-singleton, Memᴰ·append-left, Memᴰ·append-right, Memᴰ·map, Memᴰ·of-map}
 use mathlib.Core.Option.{Option, none, some, Option·none-ne-some, Option·some-injective}
 use lib.IntN.{ℤ, pos, negℤ, _+ℤ_, _-ℤ_}
 use lib.Signed.{_≤ℤ_}
 use lib.ListN.{length}
 use Rattle.signed.proofs.Signed.{signed, sum, difference, neg-up, neg-dn}
-use Rattle.lists.proofs.Members.{map-member, member-map, flatMap-member, member-flatMap}
+use Rattle.lists.proofs.Members.{to-flat, of-flat, of-tail}
 use Rattle.floor.specs.Plan.{Plan}
 use Rattle.network.specs.Events.{Route, routes-of, Point, route-points, route-events, places}
 use Rattle.network.specs.Bounds.{Bound, start-bounds, bounds}
@@ -93,11 +93,6 @@ clock-meets t c e z =
       λ l. record { lower = omega (signed, difference (t e) (t 0)); upper = λ h q. absurd (Option·none-ne-some _ q) },
     )
 
--- what follows the first of a list is in the list
-tail-member : {A : Type 0} (l : List A) (x : A) → List·Memᴰ x (tail l) → List·Memᴰ x l
-tail-member [] x m = m
-tail-member (y ∷ ys) x m = List·Memᴰ·tail m
-
 module _ (p : Plan) (b : Book) (kept : KeptBook p b) where
   -- an added bound is that of a point reported or of a point still to be passed
   pub added-cases : (c : Bound) → List·Memᴰ c (added-bounds p b)
@@ -106,10 +101,10 @@ module _ (p : Plan) (b : Book) (kept : KeptBook p b) where
   added-cases c m =
       let k : AtCart (b .clock) (route-added (b .clock)) (routes-of p) (b .passed) c = at-cart (route-added (b .clock)) c (kept .carts) m in
       ⊎-elim
-      (λ h. let (x, i, e) = map-member reported-bound (tail (route-passed (k .route) (k .times))) c h in
-      inl (x, k .too route-passed x (tail-member (route-passed (k .route) (k .times)) x i), e))
-      (λ h. let (x, i, e) = map-member (clock-bound (b .clock)) (route-to-pass (k .route) (k .times)) c h in
-      inr (x, k .too route-to-pass x i, e))
+      (λ h. let (x, i, e) = Memᴰ·of-map reported-bound (tail (route-passed (k .route) (k .times))) h in
+      inl (x, k .too route-passed x (of-tail (route-passed (k .route) (k .times)) x i), sym e))
+      (λ h. let (x, i, e) = Memᴰ·of-map (clock-bound (b .clock)) (route-to-pass (k .route) (k .times)) h in
+      inr (x, k .too route-to-pass x i, sym e))
       (List·Memᴰ·append-cases (map reported-bound (tail (route-passed (k .route) (k .times)))) (k .here))
 
   -- ---- times that fit meet every bound, so every arc allows them
@@ -129,14 +124,14 @@ module _ (p : Plan) (b : Book) (kept : KeptBook p b) where
   fit-solves t f =
       record {
         zeroed = f .starts;
-        all = λ a m. let (c, k, h) = flatMap-member ways (all-bounds p b) a m in met-allows t c (bound-met t f c k) a h;
+        all = λ a m. let (c, k, h) = of-flat ways (all-bounds p b) a m in met-allows t c (bound-met t f c k) a h;
       }
 
   -- ---- and the other way round
 
   solved-met : (t : Times) → Solves (arcs p b) t → (c : Bound) → List·Memᴰ c (all-bounds p b) → Meets t c
   unfolding arcs
-  solved-met t s c m = allowed-meets t c (λ a k. s .all a (member-flatMap ways (all-bounds p b) c a m k))
+  solved-met t s c m = allowed-meets t c (λ a k. s .all a (to-flat ways (all-bounds p b) c a m k))
 
   solved-added : (t : Times) → Solves (arcs p b) t → (c : Bound) → List·Memᴰ c (added-bounds p b) → Meets t c
   unfolding all-bounds
@@ -147,7 +142,7 @@ module _ (p : Plan) (b : Book) (kept : KeptBook p b) where
   unfolding all-bounds bounds start-bounds
   first-entry t s r m =
       let c : Bound = record { from = 0; to = r .first; lo = 0; hi = some 0 } in
-      let k : Meets t c = solved-met t s c (Memᴰ·append-left (added-bounds p b) (Memᴰ·append-left _ (member-map (λ (r : Route). record { from = 0; to = r .first; lo = 0; hi = some 0 }) m))) in
+      let k : Meets t c = solved-met t s c (Memᴰ·append-left (added-bounds p b) (Memᴰ·append-left _ (Memᴰ·map (λ (r : Route). record { from = 0; to = r .first; lo = 0; hi = some 0 }) m))) in
       let l = k .lower in
       let u = k .upper 0 refl in
       let z = s .zeroed in
@@ -174,7 +169,7 @@ module _ (p : Plan) (b : Book) (kept : KeptBook p b) where
       ⊎-elim
       (λ h. ap t (h .0) ∙ first-entry t s (k .route) (k .of-plan) ∙ ap pos (sym (h .1)))
       (λ h. reported-meets t x (s .zeroed) .0
-      (solved-added t s (reported-bound x) (k .too (route-added (b .clock)) (reported-bound x) (Memᴰ·append-left _ (member-map reported-bound h)))))
+      (solved-added t s (reported-bound x) (k .too (route-added (b .clock)) (reported-bound x) (Memᴰ·append-left _ (Memᴰ·map reported-bound h)))))
       (subst (λ (ts : List ℕ). Split (k .route) ts x) (sym e)
       (passed-cases (k .route) (k .kept .later) x (subst (λ (ts : List ℕ). List·Memᴰ x (route-passed (k .route) ts)) e (k .here))))
 
@@ -185,7 +180,7 @@ module _ (p : Plan) (b : Book) (kept : KeptBook p b) where
       clock-meets t (b .clock) e (s .zeroed) .0
       (solved-added t s (clock-bound (b .clock) e)
       (k .too (route-added (b .clock)) (clock-bound (b .clock) e) 
-      (Memᴰ·append-right (map reported-bound (tail (route-passed (k .route) (k .times)))) (member-map (clock-bound (b .clock)) (k .here)))))
+      (Memᴰ·append-right (map reported-bound (tail (route-passed (k .route) (k .times)))) (Memᴰ·map (clock-bound (b .clock)) (k .here)))))
 
   -- the times that fit are the solutions of the arcs
   pub fits-are-solutions : (t : Times) → Fits p b t ↔ Solves (arcs p b) t
