@@ -1,37 +1,34 @@
 -- The claim about whole lists of calls: demand 3, over the outcomes. Assumes nothing.
-use Prim.Native.Nat.{ℕ, _+_, _*_, _^_, _≤_, _<_}
+use Prim.Native.Nat.{ℕ, _*_, _≤_, _<_}
 use native.Mathlib.Omega.{arith}
-use mathlib.Core.Path.{_≡_, refl, ap, ap₂, sym, _∙_, subst}
+use mathlib.Core.Path.{_≡_, refl, ap, sym, _∙_, subst}
 use mathlib.Core.Logic.{_↔_, _≢_}
-use mathlib.Core.Bool.{Bool, true, false, _&&_, cond}
+use mathlib.Core.Bool.{Bool, true, false, cond}
 use mathlib.Core.List.{List, [], _∷_, _++_, map}
 use mathlib.Core.Option.{Option, none, some, Option·none-ne-some, Option·some-injective}
 use lib.Dec.{T, leb, le→leb}
 use lib.IntN.{pos}
 use lib.ListN.{length, getD, take, drop, length-map}
 use mir.Facts.{and-yes, yes-and}
-use Rattle.words.specs.Words.{words, word-at, written}
+use Rattle.words.specs.Words.{words, written}
 use Rattle.words.proofs.Reading.{words-length, word-at-words, written-front}
 use Rattle.floor.specs.Refusal.{accepted}
 use Rattle.floor.specs.Plan.{Plan}
 use Rattle.floor.specs.Tables.{Tables}
 use Rattle.network.specs.Events.{event-count}
 use Rattle.network.specs.Judge.{judge}
-use Rattle.network.specs.Meaning.{Times, KeepsOrder, Demand-2}
+use Rattle.network.specs.Meaning.{Times, Demand-2}
 use Rattle.schedule.specs.Book.{Report, Book, first-book, acceptable, pass-next, book-after, replay}
-use Rattle.schedule.specs.Fits.{Fits}
 use Rattle.schedule.specs.Timetable.{Timetable, timetable}
 use Rattle.schedule.specs.Chain.{Item, direction-number, is-chain}
 use Rattle.schedule.proofs.Log.{replay-snoc}
 use Rattle.schedule.proofs.Logged.{Logged}
 use Rattle.schedule.proofs.Chains.{ChainWithin}
 use Rattle.schedule.proofs.Times.{timetable-earliest, timetable-counted, timetable-length, timetable-range, no-timetable-chain, no-timetable-none-fit}
-use Rattle.hegtalim.specs.declared.Loaded.{Loaded}
-use Rattle.hegtalim.specs.declared.Reported.{Reported}
 use Rattle.hegtalim.specs.declared.Timed.{Timed}
 use Rattle.hegtalim.specs.PlanSlice.{plan-need, plan-slice, Held, held}
 use Rattle.hegtalim.specs.Outcomes.{Load, load, book-answer, Reporting, report, Lent, long-enough, meets-needs, times-written, chain-written, Timetabled, too-short, no-plan, timed, no-times}
-use Rattle.hegtalim.specs.Claim.{Call, reporting, timing, Reply, reported, Replies, to-report, to-timetable, Played, done, then, book-after-call, book-after-calls, Right, AllRight, times-in, Earliest, Impossible, Truthful, Holds, Demand-3, Answered}
+use Rattle.hegtalim.specs.Claim.{Call, Reply, Replies, to-report, to-timetable, Played, done, then, book-after-call, book-after-calls, Right, AllRight, times-in, Earliest, Impossible, Truthful, Demand-3, Answered}
 use Rattle.hegtalim.specs.Claim as Claim
 use Rattle.hegtalim.proofs.Slice.{held-slice, slice-length, held-says}
 use Rattle.hegtalim.proofs.Calls.{load-accepted, load-held, report-slice}

@@ -1,12 +1,12 @@
 -- No call makes a slice longer or shorter: what an outcome leaves has as many places as what was lent. Assumes nothing.
-use Prim.Native.Nat.{ℕ, _+_, _*_, _≤_}
+use Prim.Native.Nat.{ℕ, _≤_}
 use native.Mathlib.Omega.{arith}
-use mathlib.Core.Path.{_≡_, refl, ap, sym, _∙_, subst}
+use mathlib.Core.Path.{_≡_, refl, sym, subst}
 use mathlib.Core.Bool.{Bool, true, false, _&&_}
 use mathlib.Core.List.{List, [], _∷_, _++_, map}
 use mathlib.Core.Option.{Option, none, some}
 use lib.Dec.{T, leb, leb→le}
-use lib.ListN.{length, drop, replicate, length-append, length-drop, length-map, length-replicate}
+use lib.ListN.{length, drop, length-append, length-drop, length-map, length-replicate}
 use mir.Facts.{and-yes}
 use Rattle.words.specs.Words.{words, written}
 use Rattle.words.proofs.Reading.{words-length}
@@ -17,7 +17,6 @@ use Rattle.network.specs.Events.{event-count}
 use Rattle.network.specs.Judge.{judge}
 use Rattle.network.proofs.Judged.{judged}
 use Rattle.schedule.specs.Book.{Report, first-book, acceptable, replay}
-use Rattle.schedule.specs.Timetable.{Timetable}
 use Rattle.schedule.specs.Chain.{Item, direction-number}
 use Rattle.schedule.proofs.Log.{replay-snoc}
 use Rattle.schedule.proofs.Logged.{Logged}

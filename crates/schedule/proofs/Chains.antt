@@ -1,10 +1,9 @@
 -- A positive cycle of arcs, read the other way, is a chain; and a chain excludes times that fit. Assumes nothing.
-use Prim.Native.Nat.{ℕ, zero, suc, _+_, _≤_}
-use native.Mathlib.Omega.{arith}
+use Prim.Native.Nat.{ℕ, suc, _+_, _≤_}
 use mathlib.Core.Path.{_≡_, refl, ap, ap₂, sym, _∙_, subst}
-use mathlib.Core.Logic.{⊎-elim, _≢_}
+use mathlib.Core.Logic.{⊎-elim}
 use mathlib.Core.Bool.{Bool, true, false, _&&_, _||_, not, cond}
-use mathlib.Core.List.{List, [], _∷_, _++_, map, List·Memᴰ, List·Memᴰ·head, List·Memᴰ·tail, List·Memᴰ·not-nil, List·Memᴰ·cases-cons, List·Memᴰ·append-cases, List·Memᴰ·eq-of-singleton, Memᴰ·append-left, Memᴰ·append-right, Memᴰ·of-map}
+use mathlib.Core.List.{List, [], _∷_, map, List·Memᴰ, List·Memᴰ·head, List·Memᴰ·tail, List·Memᴰ·not-nil, List·Memᴰ·cases-cons, List·Memᴰ·append-cases, List·Memᴰ·eq-of-singleton, Memᴰ·append-left, Memᴰ·append-right, Memᴰ·of-map}
 use mathlib.Core.Option.{Option, none, some, Option·none-ne-some, Option·some-injective}
 use lib.Dec.{T, eqb, eqb→eq, eqb-refl}
 use lib.IntN.{ℤ, pos, negℤ, negℤ-negℤ, _+ℤ_}
@@ -17,15 +16,15 @@ use Rattle.floor.specs.Plan.{Plan}
 use Rattle.network.specs.Bounds.{Bound, bounds}
 use Rattle.network.specs.Meaning.{Times, Meets}
 use Rattle.walks.specs.Walks.{Arc}
-use Rattle.walks.specs.Solutions.{Solves, Back, NoneTwice, total, PositiveCycle}
+use Rattle.walks.specs.Solutions.{Back, NoneTwice, total, PositiveCycle}
 use Rattle.schedule.specs.Book.{Book}
 use Rattle.schedule.specs.Added.{added-bounds, all-bounds, Numbered, numbered, added-numbered, numbered-bounds}
 use Rattle.schedule.specs.Fits.{Fits}
 use Rattle.schedule.specs.Timetable.{forward, backward, ways, arcs}
 use Rattle.schedule.specs.Chain.{Direction, onward, back, Item, Leg, onward-leg, leg, leg-of, legs, linked, begins-at, no-event-twice, cost, closed-below-0, is-chain}
 use Rattle.schedule.proofs.Books.{KeptBook}
-use Rattle.schedule.proofs.Solutions.{Allowed, bound-met}
-use Rattle.schedule.proofs.Numbers.{Leads, has-number}
+use Rattle.schedule.proofs.Solutions.{bound-met}
+use Rattle.schedule.proofs.Numbers.{has-number}
 
 -- ---- a leg is an arc read the other way
 

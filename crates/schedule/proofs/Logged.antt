@@ -1,14 +1,14 @@
 -- An accepted plan and a book that a log of accepted reports gives: their arcs go between events, add no more than 10^12 either way, and lead from the
 -- start to every event with a sum of at least 0. Assumes nothing.
-use Prim.Native.Nat.{ℕ, zero, suc, _+_, _≤_, _<_}
+use Prim.Native.Nat.{ℕ, zero, suc, _≤_, _<_}
 use native.Mathlib.Omega.{arith}
-use mathlib.Core.Path.{_≡_, refl, ap, sym, _∙_, subst}
+use mathlib.Core.Path.{_≡_, refl, ap, sym, subst}
 use mathlib.Core.Logic.{_⊎_, inl, inr, ⊎-elim}
-use mathlib.Core.List.{List, [], _∷_, _++_, map, List·Memᴰ, List·Memᴰ·head, List·Memᴰ·tail, List·Memᴰ·not-nil, List·Memᴰ·cases-cons, List·Memᴰ·append-cases, List·Memᴰ·eq-of-singleton, Memᴰ·append-left, Memᴰ·append-right}
+use mathlib.Core.List.{List, [], _∷_, List·Memᴰ, List·Memᴰ·head, List·Memᴰ·tail, List·Memᴰ·not-nil, List·Memᴰ·cases-cons, List·Memᴰ·append-cases, List·Memᴰ·eq-of-singleton, Memᴰ·append-left}
 use mathlib.Core.Option.{Option, none, some, Option·none-ne-some, Option·some-injective}
-use lib.IntN.{ℤ, pos, negℤ, _+ℤ_}
+use lib.IntN.{ℤ, pos, _+ℤ_}
 use lib.Signed.{_≤ℤ_}
-use lib.ListN.{length, drop}
+use lib.ListN.{length}
 use Rattle.signed.proofs.Signed.{signed, sum, neg-up, neg-dn, Within}
 use Rattle.lists.proofs.Members.{to-flat, of-flat, of-drop}
 use Rattle.floor.specs.Refusal.{accepted}
@@ -17,7 +17,7 @@ use Rattle.floor.specs.Tables.{Tables}
 use Rattle.network.specs.Events.{Visit, points, Route, routes-of, route-points, route-events, event-count}
 use Rattle.network.specs.Bounds.{Bound, bounds}
 use Rattle.network.specs.Judge.{judge}
-use Rattle.network.proofs.Judged.{judged, judged-sound}
+use Rattle.network.proofs.Judged.{judged-sound}
 use Rattle.network.proofs.Routes.{event-count-is}
 use Rattle.network.proofs.Sizes.{bound-sizes}
 use Rattle.network.proofs.Ends.{some-visit, route-first, bounds-between, entered}
@@ -26,7 +26,7 @@ use Rattle.walks.specs.Solutions.{Between}
 use Rattle.schedule.specs.Book.{Report, Book, Passed, passed-at, first-book, replay, route-passed, route-to-pass, passed-points, points-to-pass}
 use Rattle.schedule.specs.Added.{reported-bound, clock-bound, added-bounds, all-bounds}
 use Rattle.schedule.specs.Timetable.{forward, backward, ways, arcs}
-use Rattle.schedule.proofs.Books.{Kept, KeptBook, HasPoints, AtCart, at-cart, book-kept}
+use Rattle.schedule.proofs.Books.{KeptBook, HasPoints, AtCart, at-cart, book-kept}
 use Rattle.schedule.proofs.Solutions.{added-cases}
 
 pub record Logged (p : Plan) (b : Book) : Type 0 where

@@ -1,20 +1,19 @@
 -- A bound's number leads to that bound: no two bounds have the same. Assumes nothing.
-use Prim.Native.Nat.{ℕ, zero, suc, _+_, _≤_, _<_}
+use Prim.Native.Nat.{ℕ, suc, _+_, _≤_}
 use native.Mathlib.Omega.{arith}
-use mathlib.Core.Path.{_≡_, refl, ap, ap₂, sym, _∙_, subst}
+use mathlib.Core.Path.{_≡_, refl, ap, sym, _∙_, subst}
 use mathlib.Core.Logic.{⊎-elim}
 use mathlib.Core.Bool.{Bool, true, false, cond}
-use mathlib.Core.List.{List, [], _∷_, _++_, map, tail, append-assoc, List·Memᴰ, List·Memᴰ·head, List·Memᴰ·tail, List·Memᴰ·not-nil, List·Memᴰ·cases-cons, List·Memᴰ·append-cases, Memᴰ·map}
-use mathlib.Core.Option.{Option}
+use mathlib.Core.List.{List, [], _∷_, _++_, map, tail, List·Memᴰ, List·Memᴰ·not-nil, List·Memᴰ·cases-cons, List·Memᴰ·append-cases, Memᴰ·map}
 use lib.Dec.{T, eqb, eqb→eq, eqb-refl}
 use lib.ListN.{length, drop}
 use Rattle.floor.specs.Plan.{Cart, Plan}
-use Rattle.network.specs.Events.{Route, Point, points, visits-of, routes, routes-of, route-points, route-events, places}
+use Rattle.network.specs.Events.{Route, points, visits-of, routes, routes-of, route-points, route-events, places}
 use Rattle.network.specs.Bounds.{Bound, bounds}
-use Rattle.schedule.specs.Book.{Book, Passed, passed-at, route-passed, route-to-pass, by-cart}
+use Rattle.schedule.specs.Book.{Book, passed-at, route-passed, route-to-pass, by-cart}
 use Rattle.schedule.specs.Added.{reported-bound, clock-bound, route-added, added-bounds, all-bounds, Numbered, numbered, added-numbered, numbered-bounds}
-use Rattle.schedule.specs.Chain.{Direction, Item, Leg, leg, leg-of}
-use Rattle.schedule.proofs.Books.{Kept, AllKept, no-cart, one-more, KeptBook}
+use Rattle.schedule.specs.Chain.{Direction, Item, leg, leg-of}
+use Rattle.schedule.proofs.Books.{Kept, AllKept, one-more, KeptBook}
 
 -- ---- looking a number up
 

@@ -1,13 +1,11 @@
 -- Times fit exactly when they solve the arcs: when every bound, added ones included, followed either way, allows them. Assumes nothing.
-use Prim.Native.Nat.{ℕ, suc, _≤_}
-use native.Mathlib.Omega.{arith}
+use Prim.Native.Nat.{ℕ}
 use mathlib.Core.Path.{_≡_, refl, ap, sym, _∙_, subst}
 use mathlib.Core.Logic.{_↔_, _⊎_, inl, inr, ⊎-elim}
-use mathlib.Core.List.{List, [], _∷_, _++_, map, flatMap, tail, List·Memᴰ, List·Memᴰ·head, List·Memᴰ·tail, List·Memᴰ·not-nil, List·Memᴰ·cases-cons, List·Memᴰ·append-cases, List·Memᴰ·eq-of-singleton, Memᴰ·append-left, Memᴰ·append-right, Memᴰ·map, Memᴰ·of-map}
+use mathlib.Core.List.{List, [], _∷_, map, tail, List·Memᴰ, List·Memᴰ·head, List·Memᴰ·tail, List·Memᴰ·not-nil, List·Memᴰ·cases-cons, List·Memᴰ·append-cases, List·Memᴰ·eq-of-singleton, Memᴰ·append-left, Memᴰ·append-right, Memᴰ·map, Memᴰ·of-map}
 use mathlib.Core.Option.{Option, none, some, Option·none-ne-some, Option·some-injective}
-use lib.IntN.{ℤ, pos, negℤ, _+ℤ_, _-ℤ_}
+use lib.IntN.{pos, negℤ, _+ℤ_, _-ℤ_}
 use lib.Signed.{_≤ℤ_}
-use lib.ListN.{length}
 use Rattle.signed.proofs.Signed.{signed, sum, difference, neg-up, neg-dn}
 use Rattle.lists.proofs.Members.{to-flat, of-flat, of-tail}
 use Rattle.floor.specs.Plan.{Plan}
@@ -16,11 +14,11 @@ use Rattle.network.specs.Bounds.{Bound, start-bounds, bounds}
 use Rattle.network.specs.Meaning.{Times, Meets}
 use Rattle.walks.specs.Walks.{Arc}
 use Rattle.walks.specs.Solutions.{Solves}
-use Rattle.schedule.specs.Book.{Book, Passed, passed-at, route-passed, route-to-pass, by-cart, passed-points, points-to-pass}
+use Rattle.schedule.specs.Book.{Book, Passed, passed-at, route-passed, route-to-pass, passed-points, points-to-pass}
 use Rattle.schedule.specs.Added.{reported-bound, clock-bound, route-added, added-bounds, all-bounds}
 use Rattle.schedule.specs.Fits.{Fits}
 use Rattle.schedule.specs.Timetable.{forward, backward, ways, arcs}
-use Rattle.schedule.proofs.Books.{Kept, AllKept, KeptBook, HasPoints, AtCart, at-cart}
+use Rattle.schedule.proofs.Books.{KeptBook, AtCart, at-cart}
 
 -- ---- one bound
 

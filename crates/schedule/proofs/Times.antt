@@ -1,25 +1,22 @@
 -- The timetable of an accepted plan with a logged book: times exist exactly when the passes settle; then those of the timetable fit, no others that
 -- fit are earlier anywhere, and none stands in for a sum that is not there or below 0; else there is a chain. Assumes nothing.
-use Prim.Native.Nat.{ℕ, zero, suc, _+_, _*_, _≤_, _<_}
+use Prim.Native.Nat.{ℕ, _*_, _≤_, _<_}
 use native.Mathlib.Nat.{mul-le-mul-right}
 use native.Mathlib.Omega.{arith}
-use mathlib.Core.Path.{_≡_, refl, ap, sym, _∙_, subst}
+use mathlib.Core.Path.{_≡_, refl, ap, sym, _∙_}
 use mathlib.Core.Logic.{_↔_}
-use mathlib.Core.List.{List, [], _∷_, map, List·Memᴰ}
+use mathlib.Core.List.{List, [], map}
 use mathlib.Core.Option.{Option, none, some, Option·none-ne-some, Option·some-injective}
-use lib.Dec.{T}
 use lib.IntN.{ℤ, pos, negsuc}
 use lib.Signed.{_≤ℤ_}
-use lib.ListN.{length, getD, length-map, List·getD-map, List·getD-eq-default}
+use lib.ListN.{length, getD, length-map, List·getD-map}
 use Rattle.signed.proofs.Signed.{signed, Within}
 use Rattle.floor.specs.Plan.{Plan}
 use Rattle.network.specs.Events.{event-count}
-use Rattle.network.specs.Bounds.{bounds}
 use Rattle.network.specs.Meaning.{Times}
 use Rattle.network.proofs.Judged.{judged}
 use Rattle.walks.specs.Walks.{PassNumber}
-use Rattle.walks.specs.Passes.{Sums, sums, pass-number, Settled, settled}
-use Rattle.walks.specs.Solutions.{Solves}
+use Rattle.walks.specs.Passes.{Sums, sums, Settled, settled}
 use Rattle.walks.proofs.Greatest.{AtLeast, sums-length}
 use Rattle.walks.proofs.PassNumber.{pass-number-is}
 use Rattle.walks.proofs.Settling.{ends-below, settled-is, settled-bounds}
