@@ -28,7 +28,7 @@ use Rattle.network.proofs.Visits.{step-of, rising-apart, route-rises, l
 -- ---- the first later visit to a cell
 
 -- it is a visit, later, and to that cell
-first-later-is : (x : Visit) (ys : List Visit) (z : Visit) → first-later x ys ≡ some z → List·Memᴰ z ys × (x .step < z .step) × (x .cell ≡ z .cell)
+pub first-later-is : (x : Visit) (ys : List Visit) (z : Visit) → first-later x ys ≡ some z → List·Memᴰ z ys × (x .step < z .step) × (x .cell ≡ z .cell)
 unfolding first-later
 first-later-is x [] z e = absurd (Option·none-ne-some _ e)
 first-later-is x (y ∷ ys) z e = by (ltb (x .step) (y .step) && eqb (x .cell) (y .cell)) refl e (first-later-is x ys z)

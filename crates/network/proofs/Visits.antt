@@ -387,7 +387,8 @@ unfolding points
 points-rise [] h = tt
 points-rise (x ∷ xs) h = points-after-rise x xs h
 
-kind-most : (k : Kind) → kind-level k ≤ 2
+-- no kind is above 2
+pub kind-most : (k : Kind) → kind-level k ≤ 2
 unfolding kind-level
 kind-most approach = omega arith
 kind-most entry = omega arith
