@@ -136,8 +136,8 @@ visit-held (c ∷ cs) v m =
     ⊎-elim
     (λ e. subst (λ (x : Visit). (x .step < length (c ∷ cs)) × (getD (c ∷ cs) (x .step) 0 ≡ x .cell)) (sym e) (omega arith, refl))
     (λ n. let (i, s, l, e) = visits-after-held cs c 1 v n in
-        let next : v .step ≡ suc i = omega (arith, s) in
-        (omega (arith, s, l), ap (λ (k : ℕ). getD (c ∷ cs) k 0) next ∙ e))
+    let next : v .step ≡ suc i = omega (arith, s) in
+    (omega (arith, s, l), ap (λ (k : ℕ). getD (c ∷ cs) k 0) next ∙ e))
     (List·Memᴰ·cases-cons m)
 
 -- ---- after the last visit
@@ -258,6 +258,13 @@ entry-at x (y ∷ ys) e (suc i) d h l =
 pub route-rises : (p : Plan) (r : Route) → List·Memᴰ r (routes-of p) → Rising step-of (r .visits)
 route-rises p r m = let o : Origin p r = origin p r m in subst (Rising step-of) (sym (o .visited)) (visits-rise (getD (p .paths) (o .place) []))
 
+-- each successive visit is to another cell
+pub route-changes : (p : Plan) (r : Route) → List·Memᴰ r (routes-of p) → (i : ℕ) (d : Visit) → suc i < length (r .visits)
+    → getD (r .visits) i d .cell ≢ getD (r .visits) (suc i) d .cell
+route-changes p r m i d =
+    let o : Origin p r = origin p r m in
+    subst (λ (v : List Visit). suc i < length v → getD v i d .cell ≢ getD v (suc i) d .cell) (sym (o .visited)) (visits-change (getD (p .paths) (o .place) []) i d)
+
 -- the i-th visit's leave point, where there is a visit after it
 pub leave-of : (r : Route) → Rising step-of (r .visits) → (i : ℕ) (d : Visit) → suc i < length (r .visits)
     → event-of leave r (getD (r .visits) i d) ≡ some (r .first + (3 * i + 1))
@@ -290,3 +297,111 @@ entry-of r h i d l = by (r .visits) h i l
     by (x ∷ xs) h (suc i) l =
         rw (eqb-later (getD xs i d .step) (x .step) (rises-first step-of x xs i d h (omega arith)))
         (entry-at x xs (suc (r .first)) i d h (omega arith) ∙ ap some (omega arith))
+
+-- ---- the points that order bounds go between are there
+
+-- a visit that stands for none
+abbrev no-visit : Visit
+no-visit = record { step = 0; cell = 0 }
+
+-- a visit of a route: its step is one of the plan's, and there the route's path is in the visit's cell
+pub visit-there : (p : Plan) → Sound p → (r : Route) (o : Origin p r) (x : Visit) → List·Memᴰ x (r .visits)
+    → (x .step < steps (p .paths)) × (at-step (x .step) (getD (p .paths) (o .place) []) ≡ x .cell)
+visit-there p s r o x n =
+    let q : List ℕ = getD (p .paths) (o .place) [] in
+    let (l, c) = visit-held q x (subst (λ (v : List Visit). List·Memᴰ x v) (o .visited) n) in
+    (omega (arith, l, s .same-steps q (path-there p r o)), c)
+
+-- two carts are not in one cell at one step
+not-both : (p : Plan) → Sound p → (a b t : ℕ) → a < length (p .paths) → b < length (p .paths) → a ≢ b → t < steps (p .paths)
+    → at-step t (getD (p .paths) a []) ≢ at-step t (getD (p .paths) b [])
+not-both p s a b t la lb ne l e =
+    ⊎-elim
+    (λ (h : a < b). s .apart a b t h lb l e)
+    (λ (h : b ≤ a). ⊎-elim (λ (q : b ≡ a). ne (sym q)) (λ (k : b < a). s .apart b a t k la l (sym e)) (eq-or-lt-of-le h))
+    (below-or-not a b)
+
+-- a visit that is not the last of its route has a leave point; the last one is to a cell that no other cart enters later
+pub leave-there : (p : Plan) → Sound p → (j k : Route) → List·Memᴰ j (routes-of p) → List·Memᴰ k (routes-of p) → j .number ≢ k .number
+    → (x y : Visit) → List·Memᴰ x (j .visits) → List·Memᴰ y (k .visits) → x .cell ≡ y .cell → x .step < y .step
+    → (u : ℕ) × (event-of leave j x ≡ some u)
+leave-there p s j k mj mk ne x y nx ny c l =
+    let (i, h, e) = place-of (j .visits) x no-visit nx in ⊎-elim (λ q. absurd (stays i e q)) (leaves i e) (eq-or-lt-of-le h)
+  where
+    leaves : (i : ℕ) → getD (j .visits) i no-visit ≡ x → suc i < length (j .visits) → (u : ℕ) × (event-of leave j x ≡ some u)
+    leaves i e h = (_, subst (λ (v : Visit). event-of leave j v ≡ some (j .first + (3 * i + 1))) e (leave-of j (route-rises p j mj) i no-visit h))
+
+    oj : Origin p j
+    oj = origin p j mj
+
+    ok : Origin p k
+    ok = origin p k mk
+
+    stays : (i : ℕ) → getD (j .visits) i no-visit ≡ x → suc i ≡ length (j .visits) → ⊥
+    stays i e h =
+        let q : List ℕ = getD (p .paths) (oj .place) [] in
+        let here : getD (visits-of q) i no-visit ≡ x = subst (λ (v : List Visit). getD v i no-visit ≡ x) (oj .visited) e in
+        let (ly, cy) = visit-there p s k ok y ny in
+        let wide : length q ≡ steps (p .paths) = s .same-steps q (path-there p j oj) in
+        let sx : getD (visits-of q) i no-visit .step ≡ x .step = ap (λ (v : Visit). v .step) here in
+        let cx : getD (visits-of q) i no-visit .cell ≡ x .cell = ap (λ (v : Visit). v .cell) here in
+        let n : suc i ≡ length (visits-of q) = h ∙ ap (λ (v : List Visit). length v) (oj .visited) in
+        let stay : at-step (y .step) q ≡ getD (visits-of q) i no-visit .cell =
+        last-stays q i no-visit n (y .step) (omega (arith, sx, l)) (omega (arith, wide, ly))
+        in
+        not-both p s (oj .place) (ok .place) (y .step) (oj .among) (ok .among)
+        (λ a. ne (oj .numbered ∙ ap (λ (z : ℕ). 1 + z) a ∙ sym (ok .numbered))) ly (stay ∙ cx ∙ c ∙ sym cy)
+
+-- the first visit begins at step 0
+first-step : (q : List ℕ) → 1 ≤ length (visits-of q) → getD (visits-of q) 0 no-visit .step ≡ 0
+unfolding visits-of
+first-step [] h = absurd (omega arith)
+first-step (c ∷ cs) h = refl
+
+-- a visit that begins later has an approach point
+pub approach-there : (p : Plan) (k : Route) → List·Memᴰ k (routes-of p) → (y : Visit) → List·Memᴰ y (k .visits) → 0 < y .step
+    → (v : ℕ) × (event-of approach k y ≡ some v)
+approach-there p k m y n l =
+    let (i, h, e) = place-of (k .visits) y no-visit n in by i h e
+  where
+    by : (i : ℕ) → i < length (k .visits) → getD (k .visits) i no-visit ≡ y → (v : ℕ) × (event-of approach k y ≡ some v)
+    by zero h e =
+        let o : Origin p k = origin p k m in
+        let q : List ℕ = getD (p .paths) (o .place) [] in
+        let n : length (k .visits) ≡ length (visits-of q) = ap (λ (v : List Visit). length v) (o .visited) in
+        let here : getD (visits-of q) 0 no-visit .step ≡ y .step =
+        ap (λ (v : List Visit). getD v 0 no-visit .step) (sym (o .visited)) ∙ ap (λ (v : Visit). v .step) e
+        in
+        absurd (omega (arith, first-step q (omega (arith, h, n)), here, l))
+    by (suc i) h e = (_, subst (λ (v : Visit). event-of approach k v ≡ some (k .first + (3 * i + 2))) e (approach-of k (route-rises p k m) i no-visit h))
+
+-- ---- the points of a route go up
+
+points-after-rise : (x : Visit) (ys : List Visit) → Rises step-of x ys → Rises point-level (point entry x) (points-after x ys)
+unfolding points-after point point-level kind-level
+points-after-rise x [] h = tt
+points-after-rise x (y ∷ ys) h = (omega arith, (omega (arith, h .0), (omega arith, points-after-rise y ys (h .1))))
+
+pub points-rise : (vs : List Visit) → Rising step-of vs → Rising point-level (points vs)
+unfolding points
+points-rise [] h = tt
+points-rise (x ∷ xs) h = points-after-rise x xs h
+
+-- no kind is above 2
+pub kind-most : (k : Kind) → kind-level k ≤ 2
+unfolding kind-level
+kind-most approach = omega arith
+kind-most entry = omega arith
+kind-most leave = omega arith
+
+-- the points of later visits have larger numbers
+pub later-larger : (r : Route) → Rising step-of (r .visits) → (k l : Kind) (x y : Visit) (u v : ℕ) → x .step < y .step
+    → event-of k r x ≡ some u → event-of l r y ≡ some v → u < v
+unfolding route-points point-level
+later-larger r h k l x y u v s eu ev =
+    let d : Point = record { kind = k; cell = 0; step = 0 } in
+    let (i, iu, il, ik, is) = event-found k r x u d eu in
+    let (j, jv, jl, jk, js) = event-found l r y v d ev in
+    let low : kind-level (getD (route-points r) i d .kind) ≤ 2 = kind-most (getD (route-points r) i d .kind) in
+    let below : i < j = rising-place point-level (route-points r) i j d (points-rise (r .visits) h) il (omega (arith, is, js, s, low)) in
+    omega (arith, iu, jv, below)
