@@ -17,7 +17,7 @@ use Rattle.floor.specs.Plan.{Plan}
 use Rattle.floor.specs.Tables.{Tables}
 use Rattle.network.specs.Events.{event-count}
 use Rattle.network.specs.Judge.{judge}
-use Rattle.network.specs.Meaning.{Times, Demand-2}
+use Rattle.network.proofs.Order.{demand-2}
 use Rattle.schedule.specs.Book.{Report, Book, first-book, acceptable, pass-next, book-after, replay}
 use Rattle.schedule.specs.Timetable.{Timetable, timetable}
 use Rattle.schedule.specs.Chain.{Item, direction-number, is-chain}
@@ -208,8 +208,8 @@ loaded-stands ts before p h e =
       is = ap (λ (x : Load). x .plan) (load-accepted ts before p h e);
     }
 
-pub demand-3 : Demand-2 → Demand-3
-demand-3 d2 ts before e calls replies s played =
+pub demand-3 : Demand-3
+demand-3 ts before e calls replies s played =
     let (p, h, j) = load-held ts before e in
     let first : Standing ts p (load ts before .plan) (first-book p) = loaded-stands ts before p h j in
     let (right, last) = after-calls ts p (load ts before .plan) s (first-book p) calls replies first played in
@@ -218,7 +218,7 @@ demand-3 d2 ts before e calls replies s played =
       of-tables = j;
       replied = right;
       timetable = λ l l′ a k t. truthful ts p s (book-after-calls p (first-book p) calls) l l′ a last k t;
-      order-kept = λ t f. d2 ts p j t .0 (f .meets) .3;
+      order-kept = λ t f. demand-2 ts p j t .0 (f .meets) .3;
     }
 
 -- ---- a timetable has an outcome on all input
