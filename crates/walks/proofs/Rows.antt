@@ -1,4 +1,4 @@
--- Sums and pass numbers of some graphs. Assumes nothing.
+-- Sums, pass numbers and parents of some graphs. Assumes nothing.
 use Prim.Native.Nat.{ℕ}
 use mathlib.Core.Path.{_≡_, refl}
 use mathlib.Core.List.{List, [], _∷_}
@@ -6,6 +6,7 @@ use mathlib.Core.Option.{none, some}
 use lib.IntN.{ℤ, pos, negsuc}
 use Rattle.walks.specs.Walks.{Arc}
 use Rattle.walks.specs.Passes.{open-passes, sums, pass-number}
+use Rattle.walks.specs.Parents.{open-parents, parents, back, trail}
 
 arc : ℕ → ℕ → ℤ → Arc
 arc u v w = record { from = u; to = v; adds = w }
@@ -34,3 +35,26 @@ even = arc 0 1 (pos 2) ∷ arc 1 0 (negsuc 1) ∷ []
 numbers : pass-number line 5 ∷ pass-number gain 2 ∷ pass-number even 2 ∷ pass-number [] 3 ∷ [] ≡ some 3 ∷ none ∷ some 1 ∷ some 0 ∷ []
 unfolding open-passes arc line gain even
 numbers = refl
+
+-- the arc that raised an event last is its parent: 3 gets another in the third pass; the start has none
+line-parents : parents line 5 0 ∷ parents line 5 1 ∷ parents line 5 2 ∷ parents line 5 3 ∷ []
+    ≡ (none ∷ none ∷ none ∷ none ∷ none ∷ [])
+    ∷ (none ∷ some 2 ∷ none ∷ some 3 ∷ none ∷ [])
+    ∷ (none ∷ some 2 ∷ some 1 ∷ some 3 ∷ none ∷ [])
+    ∷ (none ∷ some 2 ∷ some 1 ∷ some 0 ∷ none ∷ [])
+    ∷ []
+unfolding open-passes open-parents arc line
+line-parents = refl
+
+-- an arc that brings the same sum is not
+tie : List Arc
+tie = arc 0 1 (pos 2) ∷ arc 0 1 (pos 2) ∷ []
+
+tie-parents : parents tie 2 1 ≡ none ∷ some 0 ∷ []
+unfolding open-passes open-parents arc tie
+tie-parents = refl
+
+-- back from an event that gains for ever, the arcs of the cycle, the last first
+gain-trail : trail gain (parents gain 2 2) 2 (back gain (parents gain 2 2) 2 0) ≡ arc 1 0 (negsuc 0) ∷ arc 0 1 (pos 2) ∷ []
+unfolding open-passes open-parents arc gain
+gain-trail = refl

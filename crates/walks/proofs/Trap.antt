@@ -16,7 +16,7 @@ use Rattle.walks.specs.Parents.{Parents, parents, no-arc, before, times,
 use Rattle.walks.specs.Solutions.{Between, Back, total}
 use Rattle.walks.proofs.Greatest.{AtLeast, no-sum, none-greater}
 use Rattle.walks.proofs.Settling.{ends-below}
-use Rattle.walks.proofs.Search.{First, found, nowhere, first}
+use Rattle.walks.proofs.Search.{FirstBelow, found, nowhere, first}
 use Rattle.walks.proofs.Orbit.{times-add, lands, forever}
 use Rattle.walks.proofs.Outcome.{arc, Outcome, same, rose, outcome, getD-mem}
 use Rattle.walks.proofs.Parents.{some-parent, sum-at, parent-at, held, rooted, Chain, chain}
@@ -88,7 +88,7 @@ module _ (arcs : List Arc) (n : ℕ) (p : 0 < n) (between : Between arcs n) wher
       by (first (λ j. parent-at arcs n between (suc k) (back arcs (parents arcs n (suc k)) j v) ≡ none)
       (λ j. none? (parent-at arcs n between (suc k) (back arcs (parents arcs n (suc k)) j v))) (suc k))
     where
-      by : First (λ j. parent-at arcs n between (suc k) (back arcs (parents arcs n (suc k)) j v) ≡ none) (suc k)
+      by : FirstBelow (λ j. parent-at arcs n between (suc k) (back arcs (parents arcs n (suc k)) j v) ≡ none) (suc k)
           → (j : ℕ) → j < suc k → parent-at arcs n between (suc k) (back arcs (parents arcs n (suc k)) j v) ≢ none
       by (found i b e l) = absurd (no-root k v i (omega arith) r l e)
       by (nowhere h) = h

@@ -17,7 +17,7 @@ use Rattle.walks.specs.Passes.{sums, first-agreeing, pass-number, Settle
 use Rattle.walks.specs.Parents.{Parents, parents, times, back, trail, Trapped}
 use Rattle.walks.specs.Solutions.{Solves, Between, Back, NoneTwice, total, PositiveCycle}
 use Rattle.walks.proofs.PassNumber.{still, same-everywhere, agrees-of}
-use Rattle.walks.proofs.Search.{First, found, nowhere, first, sure, not?}
+use Rattle.walks.proofs.Search.{FirstBelow, found, nowhere, first, sure, not?}
 use Rattle.walks.proofs.Outcome.{arc}
 use Rattle.walks.proofs.Parents.{back-at, trail-at}
 use Rattle.walks.proofs.Trap.{raised-trapped}
@@ -129,7 +129,7 @@ module _ (arcs : List Arc) (n : ℕ) where
     pub unsettled-trapped : settled arcs n ≡ none → (v : ℕ) × Trapped arcs n (parents arcs n n) v
     unsettled-trapped e = at (n - 1) (omega arith)
       where
-        by : (k : ℕ) → suc k ≡ n → First (λ v. ¬ (getD (sums arcs n (suc k)) v none ≡ getD (sums arcs n k) v none)) n
+        by : (k : ℕ) → suc k ≡ n → FirstBelow (λ v. ¬ (getD (sums arcs n (suc k)) v none ≡ getD (sums arcs n k) v none)) n
             → (v : ℕ) × Trapped arcs n (parents arcs n (suc k)) v
         by k q (found v l h b) = (v, raised-trapped arcs n p between k v q l h)
         by k q (nowhere h) = absurd (never n 0 (unsettled-none e) k (omega arith) (omega arith) (agrees-of arcs n k (same-everywhere arcs n k (λ v l. sym (sure (h v l) (same? k v))))))
