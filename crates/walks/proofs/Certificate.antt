@@ -15,8 +15,8 @@ use Rattle.walks.specs.Passes.{Sums, sums, Settled, settled}
 use Rattle.walks.specs.Parents.{times}
 use Rattle.walks.specs.Solutions.{Solves, Between}
 use Rattle.walks.specs.Certificate.{scale, weighted, Tight, Certificate}
-use Rattle.walks.proofs.Search.{First, found, nowhere, first, Twice, pigeon}
-use Rattle.walks.proofs.Orbit.{times-add}
+use Rattle.walks.proofs.Search.{FirstBelow, found, nowhere, first, Twice, pigeon}
+use Rattle.walks.proofs.Orbit.{times-add, times-below}
 use Rattle.walks.proofs.Greatest.{AtLeast, none-greater}
 use Rattle.walks.proofs.PassNumber.{same-everywhere}
 use Rattle.walks.proofs.Settling.{ends-below, changed-before, settled-after, settled-walk}
@@ -26,13 +26,10 @@ use Rattle.signed.proofs.Signed.{signed, sum, difference, up, dn, neg-up, neg-d
 
 -- ---- a product by a natural
 
-up-times : (k : ℕ) (z : ℤ) → up (pos k *ℤ z) ≡ k * up z
-up-times k (pos b) = refl
-up-times k (negsuc b) = omega (arith, neg-up (pos (k * suc b)))
-
-dn-times : (k : ℕ) (z : ℤ) → dn (pos k *ℤ z) ≡ k * dn z
-dn-times k (pos b) = omega arith
-dn-times k (negsuc b) = neg-dn (pos (k * suc b))
+-- what `omega` reads of it, as `sum` says what it reads of a sum
+product : (k : ℕ) (z : ℤ) → up (pos k *ℤ z) + k * dn z ≡ dn (pos k *ℤ z) + k * up z
+product k (pos b) = omega arith
+product k (negsuc b) = omega (arith, neg-up (pos (k * suc b)), neg-dn (pos (k * suc b)))
 
 -- ---- walks of weights: the weight of a walk of j arcs with the sum w is 8,192 times w, less j
 
@@ -50,12 +47,9 @@ weigh-more j w x y a e f =
       sum y (pos (suc j)),
       sum w c,
       difference (pos scale *ℤ c) (pos 1),
-      up-times scale c,
-      dn-times scale c,
-      up-times scale w,
-      dn-times scale w,
-      up-times scale (w +ℤ c),
-      dn-times scale (w +ℤ c),
+      product scale c,
+      product scale w,
+      product scale (w +ℤ c),
     )
 
 -- an arc whose weight the values allow allows the times that they hold
@@ -73,12 +67,9 @@ allows x y t u i j a e f l h =
       sum x d,
       sum t c,
       difference (pos scale *ℤ c) (pos 1),
-      up-times scale c,
-      dn-times scale c,
-      up-times scale t,
-      dn-times scale t,
-      up-times scale u,
-      dn-times scale u,
+      product scale c,
+      product scale t,
+      product scale u,
     )
 
 module _ (arcs : List Arc) where
@@ -90,9 +81,10 @@ module _ (arcs : List Arc) where
       let (x, on, e) = weighted-walk k (a .from) u walk in
       (x +ℤ (weighted a) .adds, go (weighted a) (Memᴰ·map weighted m) on, weigh-more k u x (x +ℤ (weighted a) .adds) a e refl)
 
-  module _ (n : ℕ) (between : Between arcs n) (p : 0 < n) (few : n < scale) (val : ℕ → ℤ) (c : Certificate arcs n val) where
+  module _ (n : ℕ) (p : 0 < n) (between : Between arcs n) (few : n < scale) (val : ℕ → ℤ) (c : Certificate arcs n val) where
     -- ---- above: no walk of weights has a greater sum
 
+    -- the sum along any walk is allowed by every arc
     pub certified-above : (j v : ℕ) (x : ℤ) → Walk (map weighted arcs) j v x → x ≤ℤ val v
     unfolding weighted
     certified-above j v x walk =
@@ -118,10 +110,12 @@ module _ (arcs : List Arc) where
     begins u (yes l) = (c .tight (suc u) (omega arith) l) .arc .from
     begins u (no h) = suc u
 
+    -- one step back
     step : ℕ → ℕ
     step zero = zero
     step (suc u) = begins u (decLt (suc u) n)
 
+    -- it goes along an exact arc
     step-is : (u : ℕ) → u ≢ 0 → u < n → (t : Tight arcs val u) × (step u ≡ t .arc .from)
     unfolding step begins
     step-is zero h l = absurd (h refl)
@@ -140,18 +134,12 @@ module _ (arcs : List Arc) where
         by (yes e) = subst (λ (z : ℕ). step z < n) (sym e) p
         by (no h) = let (t, e) = step-is u h l in subst (λ (z : ℕ). z < n) (sym e) (between (t .arc) (t .of-arcs) .0)
 
-    steps-below : (j u : ℕ) → u < n → times step j u < n
-    unfolding times
-    steps-below zero u l = l
-    steps-below (suc j) u l = steps-below j (step u) (step-below u l)
-
     -- j steps back that do not begin at the start: the values differ by 8,192 times the sum of their arcs, less j
     climb : (j u : ℕ) → u < n → ((i : ℕ) → i < j → times step i u ≢ 0) → (w : ℤ) × ((val u +ℤ pos j) ≡ (val (times step j u) +ℤ (pos scale *ℤ w)))
     unfolding times weighted
     climb zero u l h = (pos 0, refl)
     climb (suc j) u l h =
         let (t, e) = step-is u (h 0 (omega arith)) l in
-        let s : ℕ = t .arc .from in
         let (w, q) = climb j (step u) (step-below u l) (λ i b. h (suc i) (omega arith)) in
         let a : ℤ = t .arc .adds in
         let y : ℕ = times step j (step u) in
@@ -169,12 +157,9 @@ module _ (arcs : List Arc) where
             sum (val y) (pos scale *ℤ (w +ℤ a)),
             sum w a,
             difference (pos scale *ℤ a) (pos 1),
-            up-times scale a,
-            dn-times scale a,
-            up-times scale w,
-            dn-times scale w,
-            up-times scale (w +ℤ a),
-            dn-times scale (w +ℤ a),
+            product scale a,
+            product scale w,
+            product scale (w +ℤ a),
           ),
         )
 
@@ -202,19 +187,19 @@ module _ (arcs : List Arc) where
         let d : ℕ = t .high - t .low in
         let a : t .low + d ≡ t .high = omega (arith, t .below) in
         let back : times step d u ≡ u = sym (times-add step (t .low) d v) ∙ ap (λ (j : ℕ). times step j v) a ∙ sym (t .equal) in
-        let (w, q) = climb d u (steps-below (t .low) v l)
+        let (w, q) = climb d u (times-below step n step-below (t .low) v l)
         (λ i b. subst (λ (y : ℕ). y ≢ 0) (times-add step (t .low) i v) (h (t .low + i) (omega (arith, t .below, t .within))))
         in
         let r : (val u +ℤ pos d) ≡ (val u +ℤ (pos scale *ℤ w)) = q ∙ ap (λ (y : ℕ). val y +ℤ (pos scale *ℤ w)) back in
-        omega (signed, r, sum (val u) (pos d), sum (val u) (pos scale *ℤ w), up-times scale w, dn-times scale w, t .below, t .within)
+        omega (signed, r, sum (val u) (pos d), sum (val u) (pos scale *ℤ w), product scale w, t .below, t .within)
 
     -- so every event has a walk of fewer than n arcs whose weight is its value
     attained : (v : ℕ) → v < n → (j : ℕ) × (j < n) × (w : ℤ) × Walk arcs j v w × ((val v +ℤ pos j) ≡ (pos scale *ℤ w))
     attained v l = by (first (λ j. times step j v ≡ 0) (λ j. ℕ-discrete (times step j v) 0) n)
       where
-        by : First (λ j. times step j v ≡ 0) n → (j : ℕ) × (j < n) × (w : ℤ) × Walk arcs j v w × ((val v +ℤ pos j) ≡ (pos scale *ℤ w))
+        by : FirstBelow (λ j. times step j v ≡ 0) n → (j : ℕ) × (j < n) × (w : ℤ) × Walk arcs j v w × ((val v +ℤ pos j) ≡ (pos scale *ℤ w))
         by (found j b e h) = let (w, walk, q) = reach j v l h e in (j, b, w, walk, q)
-        by (nowhere h) = absurd (no-return v l h (pigeon n (λ j. times step j v) (λ j b. steps-below j v l)))
+        by (nowhere h) = absurd (no-return v l h (pigeon n (λ j. times step j v) (λ j b. times-below step n step-below j v l)))
 
     -- the value of an event is the greatest sum over walks of the weighted arcs, of any number of arcs, and one of fewer than n arcs has it
     pub certified : (v : ℕ) → v < n
@@ -232,14 +217,12 @@ module _ (arcs : List Arc) where
       met : (v : ℕ) → v < n → Walk arcs (h v) v (t v) × (h v < n)
       met v l =
           let (j, b, w, walk, e) = attained v l in
-          let q : ℤ = pos scale *ℤ w in
-          let r : ℤ = pos scale *ℤ t v in
-          let f : (val v +ℤ pos (h v)) ≡ r = holds v l in
+          let f : (val v +ℤ pos (h v)) ≡ (pos scale *ℤ t v) = holds v l in
           let same : w ≡ t v =
-          omega (signed, e, f, rest v l, sum (val v) (pos j), sum (val v) (pos (h v)), up-times scale w, dn-times scale w, up-times scale (t v), dn-times scale (t v))
+          omega (signed, e, f, rest v l, sum (val v) (pos j), sum (val v) (pos (h v)), product scale w, product scale (t v))
           in
           let count : j ≡ h v =
-          omega (signed, same, e, f, sum (val v) (pos j), sum (val v) (pos (h v)), up-times scale w, dn-times scale w, up-times scale (t v), dn-times scale (t v))
+          omega (signed, same, e, f, sum (val v) (pos j), sum (val v) (pos (h v)), product scale w, product scale (t v))
           in
           (subst (λ (z : ℤ). Walk arcs (h v) v z) same (subst (λ (z : ℕ). Walk arcs z v w) count walk), subst (λ (z : ℕ). z < n) count b)
 
@@ -250,7 +233,7 @@ module _ (arcs : List Arc) where
           start : t 0 ≡ pos 0
           start =
               let z : val 0 ≡ pos 0 = c .zeroed in
-              omega (signed, z, holds 0 p, rest 0 p, sum (val 0) (pos (h 0)), up-times scale (t 0), dn-times scale (t 0))
+              omega (signed, z, holds 0 p, rest 0 p, sum (val 0) (pos (h 0)), product scale (t 0))
 
           allowed : (a : Arc) → List·Memᴰ a arcs → (t (a .from) +ℤ a .adds) ≤ℤ t (a .to)
           allowed a m =
@@ -279,11 +262,13 @@ module _ (arcs : List Arc) where
           a .there ∙ ap some e
 
       module _ (s : Settled) (e : settled arcs n ≡ some s) where
+        -- where they settle, every event has its time
         settled-time : (v : ℕ) → v < n → getD (s .sums) v none ≡ some (t v)
         settled-time v l =
             ap (λ (r : Sums). getD r v none) (settled-after arcs n p between s e (s .passes + h v) (omega arith))
             ∙ sum-after (s .passes + h v) v l (omega arith)
 
+        -- its number is at most the number of passes
         most : (v : ℕ) → v < n → h v ≤ s .passes
         most v l =
             let r : WalkWithin arcs (s .passes) v (t v) = settled-walk arcs n p between s e v (t v) (settled-time v l) in
@@ -301,12 +286,13 @@ module _ (arcs : List Arc) where
         reached : (v : ℕ) × (v < n) × (h v ≡ s .passes)
         reached = by (first (λ v. h v ≡ s .passes) (λ v. ℕ-discrete (h v) (s .passes)) n)
           where
-            by : First (λ v. h v ≡ s .passes) n → (v : ℕ) × (v < n) × (h v ≡ s .passes)
+            by : FirstBelow (λ v. h v ≡ s .passes) n → (v : ℕ) × (v < n) × (h v ≡ s .passes)
             by (found v l q b) = (v, l, q)
             by (nowhere b) =
                 let g : s .passes ≤ s .passes - 1 = enough (s .passes - 1) (λ v l. omega (arith, b v l, most v l)) in
                 absurd (b 0 p (omega (arith, most 0 p)))
 
+      -- so they settle, on the times, after as many passes as the greatest of the numbers
       pub certified-settled : (s : Settled) × (settled arcs n ≡ some s) × ((v : ℕ) → v < n → getD (s .sums) v none ≡ some (t v))
           × ((v : ℕ) → v < n → h v ≤ s .passes) × ((v : ℕ) × (v < n) × (h v ≡ s .passes))
       certified-settled = by (settled arcs n) refl

@@ -1,4 +1,4 @@
--- A function of the numbers below n, applied n times, lands on a cycle.
+-- Steps among the events below n: n of them land on a cycle, and what holds of the first n events met holds of all.
 -- Assumes nothing.
 use mathlib.Core.Path.{_≡_, sym, ap, _∙_, subst}
 use mathlib.Core.Logic.{_≢_, by-cases}
@@ -7,14 +7,16 @@ use native.Mathlib.Nat.{zero-add, suc-add}
 use native.Mathlib.Decide.{ℕ-discrete, decLt}
 use native.Mathlib.Omega.{arith}
 use Rattle.walks.specs.Parents.{times, Cyclic}
-use Rattle.walks.proofs.Search.{First, found, nowhere, first, Twice, pigeon}
+use Rattle.walks.proofs.Search.{FirstBelow, found, nowhere, first, Twice, pigeon}
 
 module _ (g : ℕ → ℕ) where
+  -- a steps and b more
   pub times-add : (a b v : ℕ) → times g (a + b) v ≡ times g b (times g a v)
   unfolding times
   times-add zero b v = rw zero-add
   times-add (suc a) b v = rw suc-add (times-add a b (g v))
 
+  -- of the steps that come back to x, the fewest meet no event twice: two that met would make a shorter return
   first-return : (b x p : ℕ) → 0 < p → p ≤ b → times g p x ≡ x → Cyclic g b x
   first-return b x p h k e = go (first (λ i. times g (suc i) x ≡ x) (λ i. ℕ-discrete (times g (suc i) x) x) p)
     where
@@ -25,25 +27,28 @@ module _ (g : ℕ → ℕ) where
           l (i + (q - j)) (omega arith) (ap (λ m. times g m x) s ∙ times-add i (suc (q - j)) x ∙ ap (times g (suc (q - j))) d
           ∙ sym (times-add j (suc (q - j)) x) ∙ ap (λ m. times g m x) u ∙ c)
 
-      go : First (λ i. times g (suc i) x ≡ x) p → Cyclic g b x
+      go : FirstBelow (λ i. times g (suc i) x ≡ x) p → Cyclic g b x
       go (found q d c l) = record { period = suc q; positive = omega arith; short = omega arith; closes = c; simple = apart q c l }
       go (nowhere n) =
           let s : suc (p - 1) ≡ p = omega arith in
           absurd (n (p - 1) (omega arith) (ap (λ m. times g m x) s ∙ e))
 
+  -- steps that stay below n
+  pub times-below : (n : ℕ) → ((u : ℕ) → u < n → g u < n) → (j u : ℕ) → u < n → times g j u < n
+  unfolding times
+  times-below n inside zero u h = h
+  times-below n inside (suc j) u h = times-below n inside j (g u) (inside u h)
+
   module _ (n v : ℕ) (inside : (u : ℕ) → u < n → g u < n) (low : v < n) where
-    stay : (j u : ℕ) → u < n → times g j u < n
-    unfolding times
-    stay zero u h = h
-    stay (suc j) u h = stay j (g u) (inside u h)
-
+    -- two of the first n + 1 events are the same
     twice : Twice (λ j. times g j v) n
-    twice = pigeon n (λ j. times g j v) (λ j _. stay j v low)
+    twice = pigeon n (λ j. times g j v) (λ j _. times-below n inside j v low)
 
+    -- and so are those as many steps on from each
     again : (t : Twice (λ j. times g j v) n) (c : ℕ) → times g (t .low + c) v ≡ times g (t .high + c) v
     again t c = times-add (t .low) c v ∙ ap (times g c) (t .equal) ∙ sym (times-add (t .high) c v)
 
-    -- n steps on, on the cycle
+    -- n steps on lies an event on a cycle
     pub lands : Cyclic g n (times g n v)
     lands = go twice
       where

@@ -25,8 +25,17 @@ getD-mem [] i d h = absurd (omega arith)
 getD-mem (x ∷ xs) zero d h = List·Memᴰ·head refl
 getD-mem (x ∷ xs) (suc i) d h = List·Memᴰ·tail (getD-mem xs i d (omega arith))
 
+-- the test is the one by which `greater` picks the second
+pub greater-is : (x y : Option ℤ) → greater x y ≡ cond (raises x y) y x
+unfolding greater raises
+greater-is none none = refl
+greater-is none (some y) = refl
+greater-is (some x) none = refl
+greater-is (some x) (some y) = refl
+
 -- ---- there is a parent, or none, for every event
 
+-- one arc stores at most one
 adopt-length : (old new : Sums) (ps : Parents) (i : ℕ) (a : Arc) → length (adopt old new ps i a) ≡ length ps
 unfolding adopt
 adopt-length old new ps i a = by (raises (getD new (a .to) none) (plus (getD old (a .from) none) (a .adds)))
@@ -35,11 +44,13 @@ adopt-length old new ps i a = by (raises (getD new (a .to) none) (plus (getD old
     by true = length-set ps (a .to) (some i)
     by false = refl
 
+-- so do they all
 adopt-all-length : (as′ : List Arc) (i : ℕ) (old new : Sums) (ps : Parents) → length (adopt-all as′ i old new ps) ≡ length ps
 unfolding adopt-all
 adopt-all-length [] i old new ps = refl
 adopt-all-length (a ∷ as′) i old new ps = adopt-all-length as′ (suc i) old (raise old new a) (adopt old new ps i a) ∙ adopt-length old new ps i a
 
+-- so there are n after every pass
 pub parents-length : (arcs : List Arc) (n k : ℕ) → length (parents arcs n k) ≡ n
 unfolding parents
 parents-length arcs n zero = length-replicate n none

@@ -18,6 +18,7 @@ use Rattle.signed.proofs.Signed.{signed, sum}
 
 -- ---- steps back
 
+-- a parent that is not missing is there
 pub some-parent : (o : Option ℕ) (P : Type 0) → o ≢ none → ((i : ℕ) → o ≡ some i → P) → P
 some-parent none P h f = absurd (h refl)
 some-parent (some i) P h f = f i refl
@@ -29,6 +30,7 @@ no-parent (suc n) zero i e = Option·none-ne-some _ e
 no-parent (suc n) (suc v) i e = no-parent n v i e
 
 module _ (arcs : List Arc) (ps : Parents) where
+  -- one step back from an event with a parent, and the first arc of its trail
   before-at : (v i : ℕ) → getD ps v none ≡ some i → before arcs ps v ≡ (arc arcs i) .from
   unfolding before
   before-at v i e = ap (λ (o : Option ℕ). elim o [ none ↦ v | some z ↦ (arc arcs z) .from ]) e
@@ -63,6 +65,7 @@ module _ (arcs : List Arc) (n : ℕ) (between : Between arcs n) where
   last zero v = 0
   last (suc k) v = rank (outcome arcs n between k v) k (last k v)
 
+  -- it is not after the last
   rank-le : {old : Sums} {ps : Parents} {v : ℕ} {o : Option ℤ} {q : Option ℕ} (w : Outcome arcs old ps v o q) (k l : ℕ) → l ≤ k → rank w k l ≤ suc k
   unfolding rank
   rank-le same k l h = omega arith
@@ -144,7 +147,7 @@ module _ (arcs : List Arc) (n : ℕ) (between : Between arcs n) where
   held zero v i e = absurd (no-parent n v i e)
   held (suc k) v i e = hold k v i (outcome arcs n between k v) (outcome arcs n between k ((arc arcs i) .from)) (held k v i) e
 
-  -- an event without a parent has the sum that it started with
+  -- an event without a parent has the sum that it started with: one pass more, and so all
   root : (k v : ℕ) {o : Option ℤ} {q : Option ℕ} → Outcome arcs (sums arcs n k) (parents arcs n k) v o q
       → (parent-at k v ≡ none → sum-at k v ≡ sum-at 0 v) → q ≡ none → o ≡ sum-at 0 v
   root k v same ih e = ih e
@@ -171,6 +174,7 @@ module _ (arcs : List Arc) (n : ℕ) (between : Between arcs n) where
       → (b : Arc) → List·Memᴰ b (a ∷ l) → List·Memᴰ b arcs
   all-of a l m h b q = ⊎-elim (λ (e : b ≡ a). subst (λ (z : Arc). List·Memᴰ z arcs) (sym e) m) (λ t. h b t) (List·Memᴰ·cases-cons q)
 
+  -- a chain goes on by a parent
   one-more : (k j v i : ℕ) (su sv : ℤ) (x : ℕ) (l : List Arc) → sum-at k v ≡ some sv → sum-at k ((arc arcs i) .from) ≡ some su
       → Held i v (sum-at k ((arc arcs i) .from)) (sum-at k v) (last k ((arc arcs i) .from)) (last k v)
       → Chain k j ((arc arcs i) .from) su x l

@@ -17,6 +17,7 @@ wider : (z : ℤ) (A B : ℕ) → A ≤ B → Within A z → Within B z
 wider z A B h w = record { above = omega arith; under = omega arith }
 
 module _ (arcs : List Arc) (W : ℕ) (each : (a : Arc) → List·Memᴰ a arcs → Within W (a .adds)) where
+  -- one arc adds at most W more
   pub walk-within : (k v : ℕ) (x : ℤ) → Walk arcs k v x → Within (k * W) x
   walk-within k v x stay = record { above = omega arith; under = omega arith }
   walk-within k v x (go {k = j} {w = w} a m walk) =
@@ -24,6 +25,7 @@ module _ (arcs : List Arc) (W : ℕ) (each : (a : Arc) → List·Memᴰ a arcs �
       let one : Within W (a .adds) = each a m in
       record { above = omega (arith, up-sum w (a .adds)); under = omega (arith, dn-sum w (a .adds)) }
 
+  -- a sum after k passes is that of a walk of at most k arcs
   pub sums-within : (n k v : ℕ) (x : ℤ) → getD (sums arcs n k) v none ≡ some x → Within (k * W) x
   sums-within n k v x e =
       let r : WalkWithin arcs k v x = some-equal arcs n k v x e in

@@ -1,4 +1,4 @@
--- The first number below a bound with a property that can be decided; the decision of a property of all numbers below a bound; the pigeonhole principle.
+-- The first number below a bound with a property that can be decided; the pigeonhole principle.
 -- Assumes nothing.
 use mathlib.Core.Path.{_≡_, sym, _∙_, subst}
 use Prim.Native.Nat.{ℕ, zero, suc, _≤_, _<_}
@@ -7,11 +7,13 @@ use native.Mathlib.Omega.{arith}
 
 -- ---- the first
 
-pub data First (P : ℕ → Type 0) (n : ℕ) : Type 0 where
-  found : (j : ℕ) → j < n → P j → ((i : ℕ) → i < j → ¬ P i) → First P n
-  nowhere : ((i : ℕ) → i < n → ¬ P i) → First P n
+-- there is a first one below n, or there is none
+pub data FirstBelow (P : ℕ → Type 0) (n : ℕ) : Type 0 where
+  found : (j : ℕ) → j < n → P j → ((i : ℕ) → i < j → ¬ P i) → FirstBelow P n
+  nowhere : ((i : ℕ) → i < n → ¬ P i) → FirstBelow P n
 
-pub first : (P : ℕ → Type 0) → ((i : ℕ) → Dec (P i)) → (n : ℕ) → First P n
+-- a search finds which
+pub first : (P : ℕ → Type 0) → ((i : ℕ) → Dec (P i)) → (n : ℕ) → FirstBelow P n
 first P d zero = nowhere (λ i h. absurd (omega arith))
 first P d (suc n) = go (first P d n) (d n)
   where
@@ -19,28 +21,24 @@ first P d (suc n) = go (first P d n) (d n)
     last h q i b (yes e) p = q (subst P e p)
     last h q i b (no e) p = h i (omega arith) p
 
-    go : First P n → Dec (P n) → First P (suc n)
+    go : FirstBelow P n → Dec (P n) → FirstBelow P (suc n)
     go (found j h p l) x = found j (omega arith) p l
     go (nowhere h) (yes p) = found n (omega arith) p h
     go (nowhere h) (no q) = nowhere (λ i b. last h q i b (ℕ-discrete i n))
 
+-- a decision of the opposite
 pub not? : {A : Type 0} → Dec A → Dec (¬ A)
 not? (yes a) = no (λ f. f a)
 not? (no f) = yes f
 
+-- what is decided and cannot fail holds
 pub sure : {A : Type 0} → ¬ ¬ A → Dec A → A
 sure h (yes a) = a
 sure h (no f) = absurd (h f)
 
-pub all? : (P : ℕ → Type 0) → ((i : ℕ) → Dec (P i)) → (n : ℕ) → Dec ((i : ℕ) → i < n → P i)
-all? P d n = go (first (λ i. ¬ P i) (λ i. not? (d i)) n)
-  where
-    go : First (λ i. ¬ P i) n → Dec ((i : ℕ) → i < n → P i)
-    go (found j h p l) = no (λ f. p (f j h))
-    go (nowhere h) = yes (λ i b. sure (h i b) (d i))
-
 -- ---- n + 1 numbers below n: two are equal
 
+-- two places of f up to n with the same number
 pub record Twice (f : ℕ → ℕ) (n : ℕ) : Type 0 where
   pub low : ℕ
   pub high : ℕ
@@ -48,6 +46,7 @@ pub record Twice (f : ℕ → ℕ) (n : ℕ) : Type 0 where
   pub within : high ≤ n
   pub equal : f low ≡ f high
 
+-- one of two numbers
 if-eq : {A : Type 0} → Dec A → ℕ → ℕ → ℕ
 if-eq (yes p) a b = a
 if-eq (no f) a b = b
@@ -56,6 +55,7 @@ if-eq (no f) a b = b
 swap : (ℕ → ℕ) → ℕ → ℕ → ℕ → ℕ
 swap f n z j = if-eq (ℕ-discrete (f j) n) z (f j)
 
+-- the last number stands at no other place, or that is the pair; else f without it, the number n put in its place, has only numbers below n - 1 to take
 pub pigeon : (n : ℕ) (f : ℕ → ℕ) → ((i : ℕ) → i ≤ n → f i < n) → Twice f n
 unfolding swap if-eq
 pigeon zero f h = absurd (none-below (f 0) (h 0 (omega arith)))
@@ -74,7 +74,7 @@ pigeon (suc n) f h = go (first (λ j. f j ≡ f (suc n)) (λ j. ℕ-discrete (f 
     small q i b (yes e) = omega (arith, h (suc n) (omega arith), q i (omega arith))
     small q i b (no e) = omega (arith, h i (omega arith))
 
-    go : First (λ j. f j ≡ f (suc n)) (suc n) → ((g : ℕ → ℕ) → ((i : ℕ) → i ≤ n → g i < n) → Twice g n) → Twice f (suc n)
+    go : FirstBelow (λ j. f j ≡ f (suc n)) (suc n) → ((g : ℕ → ℕ) → ((i : ℕ) → i ≤ n → g i < n) → Twice g n) → Twice f (suc n)
     go (found j b e l) ih = record { low = j; high = suc n; below = b; within = omega arith; equal = e }
     go (nowhere q) ih =
         let t : Twice (swap f n (f (suc n))) n = ih (swap f n (f (suc n))) (λ i b. small q i b (ℕ-discrete (f i) n)) in

@@ -16,12 +16,13 @@ use Rattle.walks.specs.Parents.{Parents, parents, no-arc, before, times,
 use Rattle.walks.specs.Solutions.{Between, Back, total}
 use Rattle.walks.proofs.Greatest.{AtLeast, no-sum, none-greater}
 use Rattle.walks.proofs.Settling.{ends-below}
-use Rattle.walks.proofs.Search.{First, found, nowhere, first}
+use Rattle.walks.proofs.Search.{FirstBelow, found, nowhere, first}
 use Rattle.walks.proofs.Orbit.{times-add, lands, forever}
 use Rattle.walks.proofs.Outcome.{arc, Outcome, same, rose, outcome, getD-mem}
 use Rattle.walks.proofs.Parents.{some-parent, sum-at, parent-at, held, rooted, Chain, chain}
 use Rattle.signed.proofs.Signed.{signed, sum, lt-or-le}
 
+-- whether an event has no parent
 none? : (o : Option ℕ) → Dec (o ≡ none)
 none? none = yes refl
 none? (some i) = no (λ e. Option·none-ne-some _ (sym e))
@@ -52,6 +53,7 @@ module _ (arcs : List Arc) (n : ℕ) (p : 0 < n) (between : Between arcs n) wher
     is : o ≡ some top
     more : (r : ℤ) → sum-at arcs n between k v ≡ some r → r <ℤ top
 
+  -- a change is a rise
   rise : (k v : ℕ) {o : Option ℤ} {q : Option ℕ} → Outcome arcs (sums arcs n k) (parents arcs n k) v o q → o ≢ sum-at arcs n between k v → Rise k v o
   rise k v same h = absurd (h refl)
   rise k v (rose i x l to from up) h = record { top = x +ℤ (arc arcs i) .adds; is = refl; more = up }
@@ -82,13 +84,14 @@ module _ (arcs : List Arc) (n : ℕ) (p : 0 < n) (between : Between arcs n) wher
       let m : a .value <ℤ r .top = r .more (a .value) (a .there) in
       omega (signed, sum (c .end) (total l), c .le, a .least, z .1)
 
+  -- so each of the first k + 1 events back has a parent
   unrooted : (k v : ℕ) → Rise k v (sum-at arcs n between (suc k) v)
       → (j : ℕ) → j < suc k → parent-at arcs n between (suc k) (back arcs (parents arcs n (suc k)) j v) ≢ none
   unrooted k v r =
       by (first (λ j. parent-at arcs n between (suc k) (back arcs (parents arcs n (suc k)) j v) ≡ none)
       (λ j. none? (parent-at arcs n between (suc k) (back arcs (parents arcs n (suc k)) j v))) (suc k))
     where
-      by : First (λ j. parent-at arcs n between (suc k) (back arcs (parents arcs n (suc k)) j v) ≡ none) (suc k)
+      by : FirstBelow (λ j. parent-at arcs n between (suc k) (back arcs (parents arcs n (suc k)) j v) ≡ none) (suc k)
           → (j : ℕ) → j < suc k → parent-at arcs n between (suc k) (back arcs (parents arcs n (suc k)) j v) ≢ none
       by (found i b e l) = absurd (no-root k v i (omega arith) r l e)
       by (nowhere h) = h
@@ -119,7 +122,7 @@ module _ (arcs : List Arc) (n : ℕ) (p : 0 < n) (between : Between arcs n) wher
             absurd (omega (arith, c .tie z))) (lt-or-le (pos 0) (total l)),
       ))
 
-  -- an event that pass n raises
+  -- so an event that pass n changes leads back to a cycle of parents that gains
   pub raised-trapped : (k v : ℕ) → suc k ≡ n → v < n → getD (sums arcs n (suc k)) v none ≢ getD (sums arcs n k) v none
       → Trapped arcs n (parents arcs n (suc k)) v
   raised-trapped k v e b up =

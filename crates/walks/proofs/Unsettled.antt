@@ -17,7 +17,7 @@ use Rattle.walks.specs.Passes.{sums, first-agreeing, pass-number, Settle
 use Rattle.walks.specs.Parents.{Parents, parents, times, back, trail, Trapped}
 use Rattle.walks.specs.Solutions.{Solves, Between, Back, NoneTwice, total, PositiveCycle}
 use Rattle.walks.proofs.PassNumber.{still, same-everywhere, agrees-of}
-use Rattle.walks.proofs.Search.{First, found, nowhere, first, sure, not?}
+use Rattle.walks.proofs.Search.{FirstBelow, found, nowhere, first, sure, not?}
 use Rattle.walks.proofs.Outcome.{arc}
 use Rattle.walks.proofs.Parents.{back-at, trail-at}
 use Rattle.walks.proofs.Trap.{raised-trapped}
@@ -113,6 +113,7 @@ module _ (arcs : List Arc) (n : ℕ) where
       by true q r e = absurd (Option·none-ne-some _ (sym e))
       by false q r e = ⊎-elim (λ (h : k ≡ i). λ t. subst T q (subst (λ (x : ℕ). T (still arcs n x)) (sym h) t)) (λ h. r e i h (omega arith)) (eq-or-lt-of-le l)
 
+  -- where nothing is settled no number is found
   unsettled-none : settled arcs n ≡ none → first-agreeing arcs n n 0 ≡ none
   unfolding settled pass-number
   unsettled-none e = by (first-agreeing arcs n n 0) e
@@ -121,6 +122,7 @@ module _ (arcs : List Arc) (n : ℕ) where
       by none e = refl
       by (some k) e = absurd (Option·none-ne-some _ (sym e))
 
+  -- whether a pass leaves an event as it was
   same? : (k v : ℕ) → Dec (getD (sums arcs n (suc k)) v none ≡ getD (sums arcs n k) v none)
   same? k v = Opt.discrete ℤ-discrete (getD (sums arcs n (suc k)) v none) (getD (sums arcs n k) v none)
 
@@ -129,7 +131,7 @@ module _ (arcs : List Arc) (n : ℕ) where
     pub unsettled-trapped : settled arcs n ≡ none → (v : ℕ) × Trapped arcs n (parents arcs n n) v
     unsettled-trapped e = at (n - 1) (omega arith)
       where
-        by : (k : ℕ) → suc k ≡ n → First (λ v. ¬ (getD (sums arcs n (suc k)) v none ≡ getD (sums arcs n k) v none)) n
+        by : (k : ℕ) → suc k ≡ n → FirstBelow (λ v. ¬ (getD (sums arcs n (suc k)) v none ≡ getD (sums arcs n k) v none)) n
             → (v : ℕ) × Trapped arcs n (parents arcs n (suc k)) v
         by k q (found v l h b) = (v, raised-trapped arcs n p between k v q l h)
         by k q (nowhere h) = absurd (never n 0 (unsettled-none e) k (omega arith) (omega arith) (agrees-of arcs n k (same-everywhere arcs n k (λ v l. sym (sure (h v l) (same? k v))))))
@@ -139,8 +141,10 @@ module _ (arcs : List Arc) (n : ℕ) where
             subst (λ (m : ℕ). (v : ℕ) × Trapped arcs n (parents arcs n m) v) q
             (by k q (first (λ v. ¬ (getD (sums arcs n (suc k)) v none ≡ getD (sums arcs n k) v none)) (λ v. not? (same? k v)) n))
 
+    -- so there is a positive cycle
     pub unsettled-cycle : settled arcs n ≡ none → PositiveCycle arcs n
     unsettled-cycle e = let (v, t) = unsettled-trapped e in trapped-cycle arcs n (parents arcs n n) v t .0
 
+    -- which a solution excludes
     pub solution-settles : (t : ℕ → ℤ) → Solves arcs t → ¬ (settled arcs n ≡ none)
     solution-settles t h e = cycle-excludes arcs n t (unsettled-cycle e) (h .all)
