@@ -28,6 +28,7 @@ abbrev pub no-zero : List ℕ → Bool
 no-zero [] = true
 no-zero (b ∷ bs) = not (eqb b 0) && no-zero bs
 
+-- and what it says
 pub no-zero-is : (bs : List ℕ) → T (no-zero bs) → NoZero bs
 no-zero-is [] t = tt
 no-zero-is (b ∷ bs) t = let both = and-yes (not (eqb b 0)) (no-zero bs) t in (eqb-no (both .0), no-zero-is bs (both .1))
@@ -51,6 +52,7 @@ push-nonzero b ((c ∷ p) ∷ ps) h = by (eqb b 13 && eqb c 10) refl h
         (not-0 b 13 (λ q. omega (arith, q)) (both .0), ((not-0 c 10 (λ q. omega (arith, q)) (both .1), h .1 .0), h .1 .1))
     by false e h = (h .0 .0, (h .0 .1, h .1))
 
+-- hence a table's bytes are in its pieces
 pieces-nonzero : (t : List ℕ) → NoZeros (pieces t) → NoZero t
 unfolding pieces
 pieces-nonzero [] h = tt
@@ -71,6 +73,7 @@ records-nonzero t h = pieces-nonzero t (unended-nonzero (pieces t) h)
 
 -- ---- fields
 
+-- a byte in front is in the first field
 widen-nonzero : (b : ℕ) (fs : List (List ℕ)) → NoZeros (widen b fs) → (b ≢ 0) × NoZeros fs
 unfolding widen
 widen-nonzero b [] h = (h .0 .0, tt)

@@ -41,10 +41,12 @@ first-line-nonzero line t (r ∷ rs) rest e n ns =
 
 -- ---- roads
 
+-- an accepted record is all numbers
 road-nonzero : (before : List Road) (r : List ℕ) (d : Road) → road before r ≡ accepted d → NoZero r
 unfolding road
 road-nonzero before r d e = let (ns, there, rest) = and-given-accepted (numbers (fields r)) _ _ _ _ d e in fields-nonzero r (numbers-nonzero (fields r) ns there)
 
+-- and so is each of them
 roads-nonzero : (before : List Road) (rs : List (List ℕ)) (ds : List Road) → roads-from before rs ≡ accepted ds → NoZeros rs
 unfolding roads-from
 roads-nonzero before [] ds e = tt
@@ -52,6 +54,7 @@ roads-nonzero before (r ∷ rs) ds e =
     let (d, one, more) = bind-accepted (road before r) (λ d. roads-from (before ++ (d ∷ [])) rs) ds e in
     (road-nonzero before r d one, roads-nonzero (before ++ (d ∷ [])) rs ds more)
 
+-- the first line's letters and commas
 roads-line : NoZero (bytes "from,to,length,margin")
 unfolding bytes
 roads-line = no-zero-is (bytes "from,to,length,margin") tt
@@ -83,6 +86,7 @@ two-fields (f ∷ []) e a b = (a, tt)
 two-fields (f ∷ g ∷ []) e a b = (a, (b, tt))
 two-fields (f ∷ g ∷ h ∷ fs) e a b = absurd (omega (arith, e))
 
+-- an accepted record is a number, and a number or nothing
 cart-nonzero : (before : List Cart) (r : List ℕ) (c : Cart) → cart before r ≡ accepted c → NoZero r
 unfolding cart
 cart-nonzero before r c e =
@@ -92,6 +96,7 @@ cart-nonzero before r c e =
     let (s, slow, rest) = and-given-accepted (number-or-empty (getD fs 1 [])) _ _ _ _ c others in
     fields-nonzero r (two-fields fs (eqb→eq (length fs) 2 two) (number-nonzero (getD fs 0 []) f fast) (number-or-empty-nonzero (getD fs 1 []) s slow))
 
+-- and so is each of them
 carts-nonzero : (before : List Cart) (rs : List (List ℕ)) (cs : List Cart) → carts-from before rs ≡ accepted cs → NoZeros rs
 unfolding carts-from
 carts-nonzero before [] cs e = tt
@@ -99,6 +104,7 @@ carts-nonzero before (r ∷ rs) cs e =
     let (c, one, more) = bind-accepted (cart before r) (λ c. carts-from (before ++ (c ∷ [])) rs) cs e in
     (cart-nonzero before r c one, carts-nonzero (before ++ (c ∷ [])) rs cs more)
 
+-- the first line's letters and comma
 carts-line : NoZero (bytes "fastest,slowest")
 unfolding bytes
 carts-line = no-zero-is (bytes "fastest,slowest") tt
@@ -114,10 +120,12 @@ carts-fine b cs e =
 
 -- ---- paths
 
+-- an accepted record is all numbers
 path-nonzero : (before : List (List ℕ)) (r : List ℕ) (p : List ℕ) → path before r ≡ accepted p → NoZero r
 unfolding path
 path-nonzero before r p e = let (ns, there, rest) = and-given-accepted (numbers (fields r)) _ _ _ _ p e in fields-nonzero r (numbers-nonzero (fields r) ns there)
 
+-- and so is each of them
 paths-nonzero : (before : List (List ℕ)) (rs : List (List ℕ)) (ps : List (List ℕ)) → paths-from before rs ≡ accepted ps → NoZeros rs
 unfolding paths-from
 paths-nonzero before [] ps e = tt

@@ -65,7 +65,7 @@ report-on s r o h e =
     (passes (leb plan-need (length s)) (le→leb plan-need (length s) h))
     ∙ ap (report-held s r) e
 
--- exactly an acceptable report is answered Taken by the book
+-- the book answers Taken to an acceptable report
 pub answered-taken : (p : Plan) (b : Book) (r : Report) → acceptable p b r ≡ true → book-answer p b r ≡ Reported.Taken
 unfolding acceptable book-answer
 answered-taken p b r e = by (has-next p b r) (in-time b r) e
@@ -75,6 +75,7 @@ answered-taken p b r e = by (has-next p b r) (in-time b r) e
     by true false e = absurd (subst T (sym e) tt)
     by false u e = absurd (subst T (sym e) tt)
 
+-- and to no other
 pub taken-acceptable : (p : Plan) (b : Book) (r : Report) → book-answer p b r ≡ Reported.Taken → acceptable p b r ≡ true
 unfolding acceptable book-answer
 taken-acceptable p b r e = by (has-next p b r) (in-time b r) e

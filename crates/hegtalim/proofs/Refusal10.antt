@@ -19,7 +19,7 @@ use Rattle.hegtalim.specs.Claim.{Left, by-load, by-report, Refusal-10}
 use Rattle.hegtalim.proofs.Slice.{held-slice, held-says}
 use Rattle.hegtalim.proofs.Calls.{load-accepted, load-held, answered-taken, report-slice, report-taken}
 
--- no report is replayed at once
+-- the log of a load is empty, and is replayed
 replay-none : (p : Plan) → replay p (first-book p) [] ≡ some (first-book p)
 unfolding replay
 replay-none p = refl
@@ -46,6 +46,7 @@ report-holds s r h e a w =
       ap held w ∙ held-slice (length s) (h .tables) (h .plan) log b long judged (replay-snoc (h .plan) (first-book (h .plan)) (h .book) (h .log) r replayed a),
     )
 
+-- by the last call that left it
 left-held : (s : List ℕ) → Left s → (h : Held) × (held s ≡ some h)
 left-held s (by-load ts before e) = let (p, l, ej) = load-held ts before e in load-holds ts before p l ej
 left-held s (by-report t r was e) = let (h, eh, a, w) = report-taken t r e in report-holds t r h eh a w

@@ -27,18 +27,20 @@ use Rattle.hegtalim.specs.PlanSlice.{plan-need, padded, plan-slice, unti
 
 -- ---- padding
 
+-- bytes filled up to m places
+filled-length : (m z : ℕ) (l : List ℕ) → length (l ++ replicate (m - length l) z) ≡ length l + (m - length l)
+filled-length m z l = length-append l (replicate (m - length l) z) ∙ ap (λ (x : ℕ). length l + x) (length-replicate (m - length l) z)
+
 -- what fits is padded to just its size
 padded-length : (m : ℕ) (l : List ℕ) → length l ≤ m → length (padded m l) ≡ m
 unfolding padded
-padded-length m l h = omega (arith, length-append l (replicate (m - length l) 0), length-replicate {A = ℕ} (m - length l) 0)
+padded-length m l h = filled-length m _ l ∙ omega (arith, h)
 
--- and what does not is no shorter than it
+-- and nothing is padded to less than its size or than itself
 padded-at-least : (m : ℕ) (l : List ℕ) → (m ≤ length (padded m l)) × (length l ≤ length (padded m l))
 unfolding padded
 padded-at-least m l =
-    let e : length (l ++ replicate (m - length l) 0) ≡ length l + (m - length l) =
-    length-append l (replicate (m - length l) 0) ∙ ap (λ (x : ℕ). length l + x) (length-replicate (m - length l) 0)
-    in
+    let e : length (padded m l) ≡ length l + (m - length l) = filled-length m _ l in
     (omega (arith, e), omega (arith, e))
 
 -- zeros end at once
@@ -126,6 +128,7 @@ module _ (m k w n : ℕ) (r c p cs ts : List ℕ) where
           h,
         ))
 
+    -- the padded parts and the zeros, one after the other
     in-a-row : padded n parts ≡ padded m r ++ (padded m c ++ (padded m p ++ (padded k cs ++ (padded w ts ++ zeros))))
     unfolding padded
     in-a-row = spread (padded m r) (padded m c) (padded m p) (padded k cs) (padded w ts) zeros
@@ -190,10 +193,11 @@ pub record LogFits (log : List Report) : Type 0 where
   pub carts-from-1 : (r : Report) → List·Memᴰ r log → 1 ≤ r .cart
   pub times-short : (r : Report) → List·Memᴰ r log → r .time < 256 ^ 8
 
--- the carts of a log, and its times
+-- the carts of a log
 abbrev carts-of : List Report → List ℕ
 carts-of log = map (λ (r : Report). r .cart) log
 
+-- and its times
 abbrev times-of : List Report → List ℕ
 times-of log = map (λ (r : Report). r .time) log
 
@@ -260,9 +264,12 @@ module _ (n : ℕ) (ts : Tables) (log : List Report) where
     tables-back =
         let ws : List ℕ = words 8 (times-of log) in
         same-tables _ _ _ ts
-        (first-back 65_536 4096 32_768 n (ts .roads) (ts .carts) (ts .paths) (carts-of log) ws (tf .roads-short) (tf .carts-short) (tf .paths-short) carts-short (tf .roads-nonzero))
-        (second-back 65_536 4096 32_768 n (ts .roads) (ts .carts) (ts .paths) (carts-of log) ws (tf .roads-short) (tf .carts-short) (tf .paths-short) carts-short (tf .carts-nonzero))
-        (third-back 65_536 4096 32_768 n (ts .roads) (ts .carts) (ts .paths) (carts-of log) ws (tf .roads-short) (tf .carts-short) (tf .paths-short) carts-short 131_072 refl (tf .paths-nonzero))
+        (first-back 65_536 4096 32_768 n (ts .roads) (ts .carts) (ts .paths) (carts-of log) ws
+        (tf .roads-short) (tf .carts-short) (tf .paths-short) carts-short (tf .roads-nonzero))
+        (second-back 65_536 4096 32_768 n (ts .roads) (ts .carts) (ts .paths) (carts-of log) ws
+        (tf .roads-short) (tf .carts-short) (tf .paths-short) carts-short (tf .carts-nonzero))
+        (third-back 65_536 4096 32_768 n (ts .roads) (ts .carts) (ts .paths) (carts-of log) ws
+        (tf .roads-short) (tf .carts-short) (tf .paths-short) carts-short 131_072 refl (tf .paths-nonzero))
 
     -- and so is the log
     pub log-back : log-in (plan-slice n ts log) ≡ log
@@ -270,8 +277,10 @@ module _ (n : ℕ) (ts : Tables) (log : List Report) where
     log-back =
         let ws : List ℕ = words 8 (times-of log) in
         ap₂ entries
-        (fourth-back 65_536 4096 32_768 n (ts .roads) (ts .carts) (ts .paths) (carts-of log) ws (tf .roads-short) (tf .carts-short) (tf .paths-short) carts-short 196_608 refl (carts-nonzero log (lf .carts-from-1)))
-        (fifth-there 65_536 4096 32_768 n (ts .roads) (ts .carts) (ts .paths) (carts-of log) ws (tf .roads-short) (tf .carts-short) (tf .paths-short) carts-short 200_704 refl)
+        (fourth-back 65_536 4096 32_768 n (ts .roads) (ts .carts) (ts .paths) (carts-of log) ws
+        (tf .roads-short) (tf .carts-short) (tf .paths-short) carts-short 196_608 refl (carts-nonzero log (lf .carts-from-1)))
+        (fifth-there 65_536 4096 32_768 n (ts .roads) (ts .carts) (ts .paths) (carts-of log) ws
+        (tf .roads-short) (tf .carts-short) (tf .paths-short) carts-short 200_704 refl)
         ∙ entries-back log _ (lf .times-short)
 
 -- ---- what a slice holds
@@ -297,7 +306,7 @@ held-where s ts log p b e f =
     ap (λ (o : Option Book). elim o [ none ↦ none | some x ↦ elim (nothing-else s ts log) [ true ↦ some (found x) | false ↦ none ] ]) e
     ∙ ap (λ (t : Bool). elim t [ true ↦ some (found b) | false ↦ none ]) f
 
--- a plan slice of an accepted load, and of a log that is replayed, holds these
+-- a plan slice of accepted tables that fit and a log that fits and is replayed holds these
 pub held-slice-fits : (n : ℕ) (ts : Tables) (p : Plan) (log : List Report) (b : Book) → plan-need ≤ n → TablesFit ts → LogFits log
     → judge ts ≡ accepted p → replay p (first-book p) log ≡ some b
     → held (plan-slice n ts log) ≡ some (record { tables = ts; log = log; plan = p; book = b })
@@ -362,7 +371,7 @@ Says s h =
 long-by : (s : List ℕ) (n : ℕ) (ts : Tables) (log : List Report) → s ≡ plan-slice n ts log → plan-need ≤ length s
 long-by s n ts log e = subst (λ (x : List ℕ). plan-need ≤ length x) (sym e) (slice-at-least n ts log)
 
--- the same, of tables and a log that stand for themselves
+-- so it is where tables and a log, judged and replayed, are all there is: by cases of the three tests
 held-by-says : (s : List ℕ) (ts : Tables) (log : List Report) (j : Judged Plan) (h : Held) → judge ts ≡ j → held-by s ts log j ≡ some h → Says s h
 unfolding held-by nothing-else
 held-by-says s ts log (refused r) h ej e = absurd (Option·none-ne-some _ e)

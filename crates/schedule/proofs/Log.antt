@@ -24,6 +24,7 @@ pub record Accepted (p : Plan) (b : Book) (r : Report) : Type 0 where
   pub clock : b .clock ≤ r .time
   pub limit : r .time ≤ 1_000_000_000_000
 
+-- it is what the test says
 pub acceptable-says : (p : Plan) (b : Book) (r : Report) → acceptable p b r ≡ true → Accepted p b r
 unfolding acceptable has-next in-time is-there
 acceptable-says p b r e =
@@ -141,6 +142,7 @@ abbrev all-points : List ℕ → ℕ
 all-points [] = 0
 all-points (n ∷ ns) = n + all-points ns
 
+-- no more are left than there are
 left-at-most : (ns : List ℕ) (tss : List (List ℕ)) → left ns tss ≤ all-points ns
 left-at-most [] tss = omega arith
 left-at-most (n ∷ ns) [] = omega arith
