@@ -5,7 +5,7 @@ use mathlib.Core.Path.{_≡_, refl, ap, ap₂, sym, _∙_, subst}
 use mathlib.Core.Bool.{Bool, true, false}
 use mathlib.Core.List.{List, [], _∷_, _++_, map, append-assoc, List·Memᴰ, List·Memᴰ·head, List·Memᴰ·tail}
 use mathlib.Core.Option.{Option, none, some, Option·none-ne-some, Option·some-injective}
-use lib.Dec.{T, leb, leb→le, eqb, eqb→eq}
+use lib.Dec.{T, eqb, eqb→eq}
 use lib.ListN.{length, take, drop, replicate, length-append, length-replicate, length-map}
 use lib.Seq.{take-at, drop-at, drop-drop}
 use Rattle.words.specs.Words.{little, word, words}
@@ -15,12 +15,10 @@ use Rattle.csv.proofs.Text.{same-equal, same-self}
 use Rattle.csv.proofs.Bytes.{NoZero}
 use Rattle.floor.specs.Refusal.{Judged, refused, accepted}
 use Rattle.floor.specs.Plan.{Plan}
-use Rattle.floor.specs.Tables.{Tables, read-tables}
-use Rattle.floor.proofs.Judging.{accepted-same, bind-accepted, then-accepted}
+use Rattle.floor.specs.Tables.{Tables}
 use Rattle.floor.proofs.Bytes.{accepted-bytes}
-use Rattle.network.specs.Events.{event-count}
-use Rattle.network.specs.Bounds.{bounds}
-use Rattle.network.specs.Judge.{within-limits, judge}
+use Rattle.network.specs.Judge.{judge}
+use Rattle.network.proofs.Judged.{judged}
 use Rattle.schedule.specs.Book.{Report, Book, first-book, replay}
 use Rattle.schedule.proofs.Log.{log-carts-times, log-short}
 use Rattle.hegtalim.specs.PlanSlice.{plan-need, padded, plan-slice, until-zero, tables-in, entries, log-in, Held, nothing-else, held-by, held}
@@ -316,15 +314,6 @@ held-slice-fits n ts p log b h tf lf ej er =
     ap₂ (λ (x : Tables) (l : List Report). held-by s x l (judge x)) (tables-back n ts log tf lf) (log-back n ts log tf lf)
     ∙ ap (held-by s ts log) ej
     ∙ held-where s ts log p b er (nothing-else-in n ts log (plan-slice-length n ts log tf lf h))
-
--- accepted tables are read as their plan, which has at most 4,096 events
-judged : (ts : Tables) (p : Plan) → judge ts ≡ accepted p → (read-tables ts ≡ accepted p) × (event-count p ≤ 4096)
-unfolding judge within-limits
-judged ts p e =
-    let (q, was-read, rest) = bind-accepted (read-tables ts) within-limits p e in
-    let (events, e1) = then-accepted (leb (event-count q) 4096) _ _ 0 _ p rest in
-    let (count, e2) = then-accepted (leb (length (bounds q)) 8192) _ _ 0 (accepted q) p e1 in
-    subst (λ (x : Plan). (read-tables ts ≡ accepted x) × (event-count x ≤ 4096)) (accepted-same q p e2) (was-read, leb→le (event-count q) 4096 events)
 
 -- a slice holds accepted tables as they are
 pub judged-fit : (ts : Tables) (p : Plan) → judge ts ≡ accepted p → TablesFit ts
