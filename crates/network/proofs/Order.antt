@@ -24,24 +24,24 @@ use Rattle.network.proofs.Members.{to-flat, at-place, place-of}
 use Rattle.network.proofs.Sorts.{Order, Sort, starts, travels, orders, finishes, sort-of, start-there, travel-there, order-there, finish-there, start-in, travel-in, finish-in}
 use Rattle.network.proofs.Ends.{along-at, event-found}
 use Rattle.network.proofs.Visits.{step-of, rising-apart, route-rises, leave-there, approach-there, later-larger}
+use Rattle.network.proofs.Levels.{later-step}
 
 -- ---- the first later visit to a cell
 
--- it is a visit, later, and to that cell
-pub first-later-is : (x : Visit) (ys : List Visit) (z : Visit) → first-later x ys ≡ some z → List·Memᴰ z ys × (x .step < z .step) × (x .cell ≡ z .cell)
+-- it is a visit, and to that cell
+first-later-visits : (x : Visit) (ys : List Visit) (z : Visit) → first-later x ys ≡ some z → List·Memᴰ z ys × (x .cell ≡ z .cell)
 unfolding first-later
-first-later-is x [] z e = absurd (Option·none-ne-some _ e)
-first-later-is x (y ∷ ys) z e = by (ltb (x .step) (y .step) && eqb (x .cell) (y .cell)) refl e (first-later-is x ys z)
+first-later-visits x [] z e = absurd (Option·none-ne-some _ e)
+first-later-visits x (y ∷ ys) z e = by (ltb (x .step) (y .step) && eqb (x .cell) (y .cell)) refl e (first-later-visits x ys z)
   where
     by : (b : Bool) → (ltb (x .step) (y .step) && eqb (x .cell) (y .cell)) ≡ b → cond b (some y) (first-later x ys) ≡ some z
-        → (first-later x ys ≡ some z → List·Memᴰ z ys × (x .step < z .step) × (x .cell ≡ z .cell))
-        → List·Memᴰ z (y ∷ ys) × (x .step < z .step) × (x .cell ≡ z .cell)
+        → (first-later x ys ≡ some z → List·Memᴰ z ys × (x .cell ≡ z .cell))
+        → List·Memᴰ z (y ∷ ys) × (x .cell ≡ z .cell)
     by true b e rest =
-        let (later, same) = and-yes (ltb (x .step) (y .step)) (eqb (x .cell) (y .cell)) (subst T (sym b) tt) in
+        let (_, same) = and-yes (ltb (x .step) (y .step)) (eqb (x .cell) (y .cell)) (subst T (sym b) tt) in
         let q : y ≡ z = Option·some-injective _ _ e in
-        subst (λ (v : Visit). List·Memᴰ v (y ∷ ys) × (x .step < v .step) × (x .cell ≡ v .cell)) q
-        (List·Memᴰ·head refl, ltb→lt _ _ later, eqb→eq _ _ same)
-    by false b e rest = let (m, l, c) = rest e in (List·Memᴰ·tail m, l, c)
+        (List·Memᴰ·head (sym q), eqb→eq _ _ same ∙ ap (λ (v : Visit). v .cell) q)
+    by false b e rest = let (m, c) = rest e in (List·Memᴰ·tail m, c)
 
 -- where there is a later visit to that cell, one is found, at that place or before
 first-later-found : (x : Visit) (ys : List Visit) (b : ℕ) (d : Visit) → b < length ys → x .step < getD ys b d .step → x .cell ≡ getD ys b d .cell
@@ -160,7 +160,8 @@ keeps-order p s t meets j k mj mk ne x y nx ny c l =
     let same : x .cell ≡ getD (k .visits) b none-there .cell = c ∙ ap (λ (v : Visit). v .cell) (sym e) in
     let (a, ab, f) = first-later-found x (k .visits) b none-there h later same in
     let z : Visit = getD (k .visits) a none-there in
-    let (mz, lz, cz) = first-later-is x (k .visits) z f in
+    let (mz, _) = first-later-visits x (k .visits) z f in
+    let lz : x .step < z .step = later-step x (k .visits) z f in
     let (u, lu) = leave-there p s j k mj mk ne x y nx ny c l in
     let (w, aw) = approach-there p k mk z mz (omega (arith, lz)) in
     let (v, av) = approach-there p k mk y ny (omega (arith, l)) in
@@ -180,7 +181,8 @@ meets-bound : (p : Plan) (t : Times) → MeetsAll t (start-bounds (routes-of p))
 meets-bound p t ms mt mf keeps b (starts r m e) = subst (Meets t) (sym e) (ms _ (start-in (routes-of p) r m))
 meets-bound p t ms mt mf keeps b (travels r m i) = mt b (travel-in (p .roads) (routes-of p) r b m i)
 meets-bound p t ms mt mf keeps b (orders o) =
-    let (my, l, c) = first-later-is (o .x) (o .k .visits) (o .y) (o .later) in
+    let (my, c) = first-later-visits (o .x) (o .k .visits) (o .y) (o .later) in
+    let l : o .x .step < o .y .step = later-step (o .x) (o .k .visits) (o .y) (o .later) in
     let kept : InOrder t (o .j) (o .x) (o .k) (o .y) = keeps (o .j) (o .k) (o .j-there) (o .k-there) (o .others) (o .x) (o .y) (o .x-there) my c l in
     let u : kept .behind ≡ o .behind = Option·some-injective _ _ (sym (kept .leaves) ∙ o .leaves) in
     let v : kept .before ≡ o .before = Option·some-injective _ _ (sym (kept .approaches) ∙ o .approaches) in
