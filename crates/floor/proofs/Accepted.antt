@@ -5,9 +5,9 @@ use native.Mathlib.Omega.{arith}
 use mathlib.Core.Path.{_≡_, refl, ap, sym, _∙_, subst}
 use mathlib.Core.Logic.{_≢_, _⊎_, ⊎-elim}
 use mathlib.Core.Bool.{Bool, true, false, true≢false, _&&_, _||_, not, cond}
-use mathlib.Core.List.{List, [], _∷_, _++_, map, append-assoc, List·Memᴰ, List·Memᴰ·head, List·Memᴰ·tail, List·Memᴰ·not-nil, List·Memᴰ·cases-cons, List·Memᴰ·append-cases}
+use mathlib.Core.List.{List, [], _∷_, _++_, map, append-assoc, List·Memᴰ, List·Memᴰ·not-nil, List·Memᴰ·cases-cons, List·Memᴰ·append-cases}
 use mathlib.Core.Option.{Option, none, some, Option·none-ne-some, Option·some-ne-none, Option·some-injective}
-use lib.Dec.{T, leb, ltb, eqb, leb→le, ltb→lt, eqb→eq, eqb-refl}
+use lib.Dec.{T, leb, eqb, leb→le, ltb→lt, eqb→eq, eqb-refl}
 use lib.ListN.{length, getD, length-append, length-map, List·getD-append, List·getD-map}
 use mir.Facts.{and-yes}
 use Rattle.csv.specs.Text.{bytes}
@@ -15,7 +15,7 @@ use Rattle.csv.specs.Records.{records, fields, widen}
 use Rattle.csv.specs.Number.{number, numbers}
 use Rattle.floor.specs.declared.Reason.the-variants.{Layout, Range, RoadPair, Limit, NoCarts, PathCount, OffRoad, SameCell, Exchange}
 use Rattle.floor.specs.declared.Table.the-variants.{Roads, Carts, Paths}
-use Rattle.floor.specs.Refusal.{Judged, accepted, _>>=_, within-bytes, after-first-line, next}
+use Rattle.floor.specs.Refusal.{accepted, within-bytes, after-first-line, next}
 use Rattle.floor.specs.Plan.{Road, Cart, Plan, joined}
 use Rattle.floor.specs.Roads.{cell-range, road-ranges, road, roads-from, read-roads}
 use Rattle.floor.specs.Carts.{number-or-empty, fastest-range, slowest-range, cart, carts-from, read-carts}

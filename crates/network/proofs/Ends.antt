@@ -1,15 +1,15 @@
 -- Where bounds begin and end: every one goes between events, and every event but the start is entered by one from before it.
 -- Assumes nothing.
-use Prim.Native.Nat.{ℕ, zero, suc, _+_, _*_, _-_, _≤_, _<_}
+use Prim.Native.Nat.{ℕ, zero, suc, _+_, _-_, _≤_, _<_}
 use native.Mathlib.Nat.{eq-or-lt-of-le}
 use native.Mathlib.Omega.{arith}
 use mathlib.Core.Path.{_≡_, refl, ap, sym, _∙_, subst}
-use mathlib.Core.Logic.{_⊎_, ⊎-elim}
+use mathlib.Core.Logic.{⊎-elim}
 use mathlib.Core.Bool.{Bool, true, false, _&&_, cond}
-use mathlib.Core.List.{List, [], _∷_, _++_, map, flatMap, List·Memᴰ, List·Memᴰ·head, List·Memᴰ·tail, List·Memᴰ·not-nil, List·Memᴰ·cases-cons, List·Memᴰ·append-cases, Memᴰ·append-left, Memᴰ·append-right, Memᴰ·map, Memᴰ·of-map}
-use mathlib.Core.Option.{Option, none, some, Option·none-ne-some, Option·some-injective}
+use mathlib.Core.List.{List, [], _∷_, _++_, flatMap, List·Memᴰ, List·Memᴰ·head, List·Memᴰ·tail, List·Memᴰ·not-nil, List·Memᴰ·cases-cons}
+use mathlib.Core.Option.{some, Option·none-ne-some, Option·some-injective}
 use lib.Dec.{T, eqb, eqb→eq}
-use lib.ListN.{length, getD, length-append}
+use lib.ListN.{length, getD}
 use mir.Facts.{and-yes}
 use Rattle.floor.specs.Plan.{Road, Cart, Plan}
 use Rattle.floor.specs.Refusal.{accepted}
@@ -18,9 +18,9 @@ use Rattle.floor.proofs.Accepted.{Sound}
 use Rattle.network.specs.Events.{Visit, visits-of, Kind, approach, entry, leave, Point, points, points-after, Route, routes, routes-of, route-points, event-count, finish-event, places, route-events, last-event, same-kind, find-point, event-of}
 use Rattle.network.specs.Bounds.{Bound, no-earlier, part-lengths, Part, parts, parts-after, route-parts, part-bounds, bounds}
 use Rattle.network.specs.Judge.{judge}
-use Rattle.network.proofs.Members.{to-flat, of-flat, places-append, places-within, in-places}
+use Rattle.network.proofs.Members.{of-flat, places-append, places-within, in-places}
 use Rattle.network.proofs.Judged.{judged-sound}
-use Rattle.network.proofs.Sorts.{along, Order, Sort, starts, travels, orders, finishes, sort-of, start-there, travel-there, finish-there, start-in, travel-in, finish-in}
+use Rattle.network.proofs.Sorts.{along, Sort, starts, travels, orders, finishes, sort-of, start-there, travel-there, finish-there, start-in, travel-in, finish-in}
 use Rattle.network.proofs.Routes.{Origin, origin, path-there, some-route, event-count-is}
 
 -- ---- the numbers of the points

@@ -1,6 +1,6 @@
 -- What acceptance says of a plan, its limits of events and bounds included. Assumes nothing.
-use Prim.Native.Nat.{ℕ, _≤_}
-use mathlib.Core.Path.{_≡_, subst, sym}
+use Prim.Native.Nat.{_≤_}
+use mathlib.Core.Path.{_≡_, subst}
 use lib.Dec.{leb, leb→le}
 use lib.ListN.{length}
 use Rattle.floor.specs.declared.Reason.the-variants.{Limit}

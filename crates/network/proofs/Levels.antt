@@ -14,16 +14,16 @@ use Rattle.floor.specs.Paths.{steps}
 use Rattle.floor.specs.Refusal.{accepted}
 use Rattle.floor.specs.Tables.{Tables}
 use Rattle.floor.proofs.Accepted.{Sound}
-use Rattle.network.specs.Events.{Visit, Kind, approach, entry, leave, Point, point, points-after, points, Route, routes-of, route-points, start, finish, passing, events, event-count, finish-event, last-event, event-of}
+use Rattle.network.specs.Events.{Visit, Kind, approach, entry, leave, Point, point, points-after, points, Route, routes-of, route-points, start, passing, events, event-count, finish-event, last-event, event-of}
 use Rattle.network.specs.Bounds.{Bound, no-earlier, first-later, bounds}
 use Rattle.network.specs.Judge.{judge}
 use Rattle.network.specs.Levels.{kind-level, point-level, level, level-of}
 use Rattle.network.proofs.Judged.{judged-sound}
 use Rattle.network.proofs.Members.{at-place}
-use Rattle.network.proofs.Routes.{Origin, origin}
-use Rattle.network.proofs.Sorts.{along, Order, Sort, starts, travels, orders, finishes, sort-of}
-use Rattle.network.proofs.Ends.{route-within, some-visit, some-point, event-found, along-ends}
-use Rattle.network.proofs.Visits.{rising-apart, step-of, route-rises, points-rise, visit-there, kind-most}
+use Rattle.network.proofs.Routes.{origin}
+use Rattle.network.proofs.Sorts.{Order, Sort, starts, travels, orders, finishes, sort-of}
+use Rattle.network.proofs.Ends.{route-within, some-point, event-found, along-ends}
+use Rattle.network.proofs.Visits.{rising-apart, route-rises, points-rise, visit-there, kind-most}
 use Rattle.network.proofs.Places.{point-placed, finish-placed}
 
 -- what stands at a place of a list does not hang on what would stand past its end
@@ -153,7 +153,7 @@ finish-up p s r m =
     let l : n - 1 < n = omega (arith, one) in
     let same : r .first + n - 1 ≡ r .first + (n - 1) = omega (arith, one) in
     let at : level-of p (r .first + n - 1) ≡ point-level (getD (route-points r) (n - 1) no-point) =
-        ap (level-of p) same ∙ point-level-at p r m (n - 1) no-point l
+    ap (level-of p) same ∙ point-level-at p r m (n - 1) no-point l
     in
     let below : _ = below-finish p s r m (getD (route-points r) (n - 1) no-point) (at-place (route-points r) (n - 1) no-point l) in
     omega (arith, at, below, finish-level p)

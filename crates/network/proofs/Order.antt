@@ -8,20 +8,19 @@ use mathlib.Core.Logic.{_≢_, ⊎-elim}
 use mathlib.Core.Bool.{Bool, true, false, _&&_, cond}
 use mathlib.Core.List.{List, [], _∷_, flatMap, List·Memᴰ, List·Memᴰ·head, List·Memᴰ·tail}
 use mathlib.Core.Option.{Option, none, some, Option·none-ne-some, Option·some-injective}
-use lib.Dec.{T, eqb, ltb, eqb→eq, ltb→lt, lt→ltb, eqb-refl}
-use lib.IntN.{ℤ, pos, _-ℤ_}
+use lib.Dec.{T, eqb, ltb, eqb→eq, lt→ltb, eqb-refl}
 use lib.Signed.{_≤ℤ_}
 use lib.ListN.{length, getD}
 use mir.Facts.{and-yes, yes-and}
 use Rattle.signed.proofs.Signed.{signed, difference}
 use Rattle.floor.specs.Plan.{Plan}
 use Rattle.floor.proofs.Accepted.{Sound}
-use Rattle.network.specs.Events.{Visit, approach, leave, Route, routes-of, route-points, event-of, last-event, finish-event}
+use Rattle.network.specs.Events.{Visit, approach, leave, Route, routes-of, route-points, event-of, finish-event}
 use Rattle.network.specs.Bounds.{Bound, no-earlier, start-bounds, travel-bounds, first-later, between, order-bound, order-bounds-to, order-bounds, finish-bounds, bounds}
 use Rattle.network.specs.Meaning.{Times, Meets, MeetsAll, InOrder, KeepsOrder, Demand-2}
 use Rattle.network.proofs.Judged.{judged-sound}
-use Rattle.network.proofs.Members.{to-flat, at-place, place-of}
-use Rattle.network.proofs.Sorts.{Order, Sort, starts, travels, orders, finishes, sort-of, start-there, travel-there, order-there, finish-there, start-in, travel-in, finish-in}
+use Rattle.network.proofs.Members.{to-flat, place-of}
+use Rattle.network.proofs.Sorts.{Sort, starts, travels, orders, finishes, sort-of, start-there, travel-there, order-there, finish-there, start-in, travel-in, finish-in}
 use Rattle.network.proofs.Ends.{along-at, event-found}
 use Rattle.network.proofs.Visits.{step-of, rising-apart, route-rises, leave-there, approach-there, later-larger}
 use Rattle.network.proofs.Levels.{later-step}

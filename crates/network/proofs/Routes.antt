@@ -1,14 +1,13 @@
 -- What the routes of a plan are: the i-th cart's, with the visits of the i-th path, numbered one route after the other from 1 on.
 -- Assumes nothing.
-use Prim.Native.Nat.{ℕ, zero, suc, _+_, _≤_, _<_}
+use Prim.Native.Nat.{ℕ, suc, _+_, _≤_, _<_}
 use native.Mathlib.Omega.{arith}
-use mathlib.Core.Path.{_≡_, refl, ap, sym, _∙_, subst}
+use mathlib.Core.Path.{_≡_, refl, sym, subst}
 use mathlib.Core.Logic.{⊎-elim}
-use mathlib.Core.List.{List, [], _∷_, _++_, map, flatMap, List·Memᴰ, List·Memᴰ·head, List·Memᴰ·tail, List·Memᴰ·not-nil, List·Memᴰ·cases-cons}
+use mathlib.Core.List.{List, [], _∷_, map, flatMap, List·Memᴰ, List·Memᴰ·head, List·Memᴰ·tail, List·Memᴰ·not-nil, List·Memᴰ·cases-cons}
 use lib.ListN.{length, getD, length-append, length-map}
 use Rattle.floor.specs.Plan.{Cart, Plan}
-use Rattle.floor.proofs.Accepted.{Sound}
-use Rattle.network.specs.Events.{Visit, visits-of, Point, points, Route, routes, routes-of, route-points, Event, start, finish, passing, events, event-count}
+use Rattle.network.specs.Events.{visits-of, points, Route, routes, routes-of, route-points, finish, passing, events, event-count}
 use Rattle.network.proofs.Members.{at-place}
 
 -- where a route comes from, among those of carts from number j on whose events are numbered from e on

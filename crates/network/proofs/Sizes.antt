@@ -1,9 +1,9 @@
 -- How long a bound can make a part of a move last: at most 10^8 milliseconds. Assumes nothing.
-use Prim.Native.Nat.{ℕ, zero, suc, _+_, _*_, _-_, _/_, _≤_, _<_}
+use Prim.Native.Nat.{ℕ, suc, _+_, _*_, _-_, _/_, _≤_, _<_}
 use native.Mathlib.Nat.{div-lt-iff-lt-mul, div-le-of-le-mul, mul-le-mul-right}
 use native.Mathlib.Omega.{arith}
-use mathlib.Core.Path.{_≡_, refl, ap, sym, _∙_, subst}
-use mathlib.Core.Logic.{_⊎_, inl, inr, ⊎-elim}
+use mathlib.Core.Path.{_≡_, refl, sym, _∙_, subst}
+use mathlib.Core.Logic.{⊎-elim}
 use mathlib.Core.Bool.{Bool, true, false, cond}
 use mathlib.Core.List.{List, [], _∷_, List·Memᴰ, List·Memᴰ·head, List·Memᴰ·tail, List·Memᴰ·not-nil, List·Memᴰ·cases-cons, List·Memᴰ·append-cases, Memᴰ·of-map}
 use mathlib.Core.Option.{Option, none, some, Option·none-ne-some, Option·some-injective, Option·getD}
@@ -12,12 +12,12 @@ use Rattle.floor.specs.Plan.{Road, Cart, Plan, joins, road-between}
 use Rattle.floor.specs.Refusal.{accepted}
 use Rattle.floor.specs.Tables.{Tables}
 use Rattle.floor.proofs.Accepted.{Sound, SoundRoad, SoundCart}
-use Rattle.network.specs.Events.{Visit, Route, routes-of}
+use Rattle.network.specs.Events.{Visit}
 use Rattle.network.specs.Bounds.{Bound, no-earlier, part-lengths, Part, parts, div-up, least-time, most-time, road-of-move, parts-after, route-parts, part-bounds, bounds}
 use Rattle.network.specs.Judge.{judge}
 use Rattle.network.proofs.Judged.{judged-sound}
-use Rattle.network.proofs.Routes.{Origin, origin}
-use Rattle.network.proofs.Sorts.{along, Sort, starts, travels, orders, finishes, sort-of}
+use Rattle.network.proofs.Routes.{origin}
+use Rattle.network.proofs.Sorts.{Sort, starts, travels, orders, finishes, sort-of}
 
 -- ---- a part's times
 

@@ -1,11 +1,11 @@
 -- Of what sort each bound of a plan is: a start, travel, order or finish bound, and of which routes. Assumes nothing.
-use Prim.Native.Nat.{ℕ, suc}
+use Prim.Native.Nat.{ℕ}
 use mathlib.Core.Path.{_≡_, refl, ap, sym, _∙_, subst}
-use mathlib.Core.Logic.{_≢_, _⊎_, ⊎-elim}
+use mathlib.Core.Logic.{_≢_, ⊎-elim}
 use mathlib.Core.Bool.{Bool, true, false, cond}
-use mathlib.Core.List.{List, [], _∷_, _++_, map, flatMap, List·Memᴰ, List·Memᴰ·head, List·Memᴰ·not-nil, List·Memᴰ·append-cases, List·Memᴰ·eq-of-singleton, Memᴰ·append-left, Memᴰ·append-right, Memᴰ·map, Memᴰ·of-map}
+use mathlib.Core.List.{List, [], flatMap, List·Memᴰ, List·Memᴰ·not-nil, List·Memᴰ·append-cases, List·Memᴰ·eq-of-singleton, Memᴰ·append-left, Memᴰ·append-right, Memᴰ·map, Memᴰ·of-map}
 use mathlib.Core.Option.{Option, none, some}
-use lib.Dec.{T, eqb, eqb→eq, eqb-refl}
+use lib.Dec.{T, eqb, eqb-refl}
 use Rattle.floor.specs.Plan.{Road, Plan}
 use Rattle.network.specs.Events.{Visit, approach, leave, Route, routes-of, event-of, last-event, finish-event}
 use Rattle.network.specs.Bounds.{Bound, no-earlier, start-bounds, route-parts, part-bounds, travel-bounds, first-later, between, order-bound, order-bounds-to, order-bounds, finish-bounds, bounds}
