@@ -67,6 +67,7 @@ points-after-step x (y ∷ ys) q m =
     (List·Memᴰ·cases-cons m))
     (List·Memᴰ·cases-cons m)
 
+-- of all points of a route
 points-step : (vs : List Visit) (q : Point) → List·Memᴰ q (points vs) → (v : Visit) × List·Memᴰ v vs × (q .step ≡ v .step)
 unfolding points point
 points-step [] q m = absurd (List·Memᴰ·not-nil m)
@@ -90,6 +91,7 @@ above-start (x ∷ xs) d h = omega arith
 
 -- ---- bounds
 
+-- a bound that goes up
 abbrev pub Up : Plan → Bound → Type 0
 Up p b = level-of p (b .from) < level-of p (b .to)
 
@@ -97,6 +99,7 @@ Up p b = level-of p (b .from) < level-of p (b .to)
 abbrev no-point : Point
 no-point = record { kind = entry; cell = 0; step = 0 }
 
+-- from the start to an entry
 start-up : (p : Plan) → Sound p → (r : Route) → List·Memᴰ r (routes-of p) → level-of p 0 < level-of p (r .first)
 unfolding route-points
 start-up p s r m =
@@ -105,6 +108,7 @@ start-up p s r m =
     let at : level-of p (r .first) ≡ point-level (getD (route-points r) 0 no-point) = ap (level-of p) (sym same) ∙ point-level-at p r m 0 no-point one in
     omega (arith, start-level p, at, above-start (r .visits) no-point one)
 
+-- from a point to the next
 travel-up : (p : Plan) → Sound p → (r : Route) → List·Memᴰ r (routes-of p) → (i : ℕ) → suc i < length (route-points r)
     → level-of p (r .first + i) < level-of p (suc (r .first + i))
 unfolding route-points
@@ -137,6 +141,7 @@ later-step x (y ∷ ys) z e = by (ltb (x .step) (y .step) && eqb (x .cell) (y .c
         subst (λ (v : Visit). x .step < v .step) (Option·some-injective _ _ e) (ltb→lt _ _ later)
     by false b e rest = rest e
 
+-- from a leave point to the approach point of a visit that begins later
 order-up : (p : Plan) (b : Bound) (o : Order (routes-of p) b) → level-of p (o .behind) < level-of p (o .before)
 unfolding kind-level
 order-up p b o =
@@ -145,6 +150,7 @@ order-up p b o =
     let high : _ = event-level p approach (o .k) (o .y) (o .before) (o .k-there) (o .approaches) in
     omega (arith, l, low, high)
 
+-- from a point to the finish
 finish-up : (p : Plan) → Sound p → (r : Route) → List·Memᴰ r (routes-of p) → level-of p (last-event r) < level-of p (finish-event p)
 unfolding last-event
 finish-up p s r m =
@@ -158,6 +164,7 @@ finish-up p s r m =
     let below : _ = below-finish p s r m (getD (route-points r) (n - 1) no-point) (at-place (route-points r) (n - 1) no-point l) in
     omega (arith, at, below, finish-level p)
 
+-- bounds of each sort do
 rise-sort : (p : Plan) → Sound p → (b : Bound) → Sort p b → Up p b
 unfolding no-earlier
 rise-sort p s b (starts r m e) = subst (Up p) (sym e) (start-up p s r m)
@@ -170,8 +177,10 @@ rise-sort p s b (travels r m i) =
 rise-sort p s b (orders o) = subst (Up p) (sym (o .is)) (order-up p b o)
 rise-sort p s b (finishes r m e) = subst (Up p) (sym e) (finish-up p s r m)
 
+-- of every sound plan
 pub sound-bounds-rise : (p : Plan) → Sound p → (b : Bound) → List·Memᴰ b (bounds p) → level-of p (b .from) < level-of p (b .to)
 sound-bounds-rise p s b m = rise-sort p s b (sort-of p b m)
 
+-- of every accepted plan
 pub bounds-rise : (ts : Tables) (p : Plan) → judge ts ≡ accepted p → (b : Bound) → List·Memᴰ b (bounds p) → level-of p (b .from) < level-of p (b .to)
 bounds-rise ts p e b m = sound-bounds-rise p (judged-sound ts p e) b m

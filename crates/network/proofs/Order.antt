@@ -61,10 +61,12 @@ first-later-found x (y ∷ ys) b d l s c = by (ltb (x .step) (y .step) && eqb (x
 
 -- ---- the order bound to it
 
+-- both events are there
 between-there : (u v : ℕ) (o q : Option ℕ) → o ≡ some u → q ≡ some v → List·Memᴰ (no-earlier u v) (between o q)
 unfolding between
 between-there u v o q e f = rw (e, f) (List·Memᴰ·head refl)
 
+-- k is another cart, and the visit is there
 order-to-there : (j k : Route) (x z : Visit) (u v : ℕ) → j .number ≢ k .number → first-later x (k .visits) ≡ some z
     → event-of leave j x ≡ some u → event-of approach k z ≡ some v → List·Memᴰ (no-earlier u v) (order-bounds-to j x k)
 unfolding order-bounds-to order-bound
@@ -79,6 +81,7 @@ order-to-there j k x z u v ne f l a = by (eqb (j .number) (k .number)) refl
     by true e = absurd (ne (eqb→eq _ _ (subst T (sym e) tt)))
     by false e = first-one (first-later x (k .visits)) f
 
+-- it is among the order bounds, at j, then x, then k
 order-in : (rs : List Route) (j k : Route) (x z : Visit) (u v : ℕ) → List·Memᴰ j rs → List·Memᴰ k rs → List·Memᴰ x (j .visits) → j .number ≢ k .number
     → first-later x (k .visits) ≡ some z → event-of leave j x ≡ some u → event-of approach k z ≡ some v
     → List·Memᴰ (no-earlier u v) (order-bounds rs)
@@ -99,6 +102,7 @@ order-met : (t : Times) (u v : ℕ) → Meets t (no-earlier u v) → t u ≤ℤ 
 unfolding no-earlier
 order-met t u v m = not-before t (no-earlier u v) m
 
+-- and whoever is in order meets it
 meet-order : (t : Times) (u v : ℕ) → t u ≤ℤ t v → Meets t (no-earlier u v)
 unfolding no-earlier
 meet-order t u v l =
@@ -151,6 +155,7 @@ first-approached p s t meets k m a b d l h u v eu ev = ⊎-elim same later (eq-o
         let v-is : t v ≡ t (k .first + (i + (j - i))) = ap t sum-is in
         omega (signed, up, u-is, v-is)
 
+-- from the leave point to the approach of the first later visit by the order bound, and on along the route of k to the approach of y
 keeps-order : (p : Plan) → Sound p → (t : Times) → MeetsAll t (bounds p) → KeepsOrder p t
 keeps-order p s t meets j k mj mk ne x y nx ny c l =
     let none-there : Visit = record { step = 0; cell = 0 } in
@@ -175,6 +180,7 @@ keeps-order p s t meets j k mj mk ne x y nx ny c l =
 
 -- ---- the bounds, from keeping order
 
+-- start, travel and finish bounds are met as they stand, and an order bound goes between two visits that keep their order
 meets-bound : (p : Plan) (t : Times) → MeetsAll t (start-bounds (routes-of p)) → MeetsAll t (travel-bounds (p .roads) (routes-of p))
     → MeetsAll t (finish-bounds (finish-event p) (routes-of p)) → KeepsOrder p t → (b : Bound) → Sort p b → Meets t b
 meets-bound p t ms mt mf keeps b (starts r m e) = subst (Meets t) (sym e) (ms _ (start-in (routes-of p) r m))
@@ -193,6 +199,7 @@ meets-bound p t ms mt mf keeps b (finishes r m e) = subst (Meets t) (sym e) (mf 
 
 -- ---- demand 2
 
+-- both directions, for accepted tables
 pub demand-2 : Demand-2
 demand-2 ts p e t = (
   λ meets. (

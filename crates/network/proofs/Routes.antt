@@ -50,6 +50,7 @@ from-there j e c cs p ps r h =
       most = omega (arith, h .most, length-append (points (visits-of p)) (flatMap route-points (routes (suc j) (e + length (points (visits-of p))) cs ps)));
     }
 
+-- every route comes from somewhere: the first, or one of the later
 route-from : (cs : List Cart) (ps : List (List ℕ)) (j e : ℕ) (r : Route) → List·Memᴰ r (routes j e cs ps) → From j e cs ps r
 unfolding routes
 route-from [] ps j e r m = absurd (List·Memᴰ·not-nil m)
@@ -64,6 +65,7 @@ route-from (c ∷ cs) (p ∷ ps) j e r m =
 abbrev pub Origin : Plan → Route → Type 0
 Origin p = From 1 1 (p .carts) (p .paths)
 
+-- every route of a plan does
 pub origin : (p : Plan) (r : Route) → List·Memᴰ r (routes-of p) → Origin p r
 unfolding routes-of
 origin p r m = route-from (p .carts) (p .paths) 1 1 r m
