@@ -5,9 +5,9 @@ use native.Mathlib.Omega.{arith}
 use mathlib.Core.Path.{_≡_, refl, ap, sym, _∙_, subst}
 use mathlib.Core.Logic.{_≢_, _⊎_, ⊎-elim}
 use mathlib.Core.Bool.{Bool, true, false, true≢false, _&&_, _||_, not, cond}
-use mathlib.Core.List.{List, [], _∷_, _++_, map, append-assoc, List·Memᴰ, List·Memᴰ·head, List·Memᴰ·tail, List·Memᴰ·not-nil, List·Memᴰ·cases-cons, List·Memᴰ·append-cases}
+use mathlib.Core.List.{List, [], _∷_, _++_, map, append-assoc, List·Memᴰ, List·Memᴰ·not-nil, List·Memᴰ·cases-cons, List·Memᴰ·append-cases}
 use mathlib.Core.Option.{Option, none, some, Option·none-ne-some, Option·some-ne-none, Option·some-injective}
-use lib.Dec.{T, leb, ltb, eqb, leb→le, ltb→lt, eqb→eq, eqb-refl}
+use lib.Dec.{T, leb, eqb, leb→le, ltb→lt, eqb→eq, eqb-refl}
 use lib.ListN.{length, getD, length-append, length-map, List·getD-append, List·getD-map}
 use mir.Facts.{and-yes}
 use Rattle.csv.specs.Text.{bytes}
@@ -15,7 +15,7 @@ use Rattle.csv.specs.Records.{records, fields, widen}
 use Rattle.csv.specs.Number.{number, numbers}
 use Rattle.floor.specs.declared.Reason.the-variants.{Layout, Range, RoadPair, Limit, NoCarts, PathCount, OffRoad, SameCell, Exchange}
 use Rattle.floor.specs.declared.Table.the-variants.{Roads, Carts, Paths}
-use Rattle.floor.specs.Refusal.{Judged, accepted, _>>=_, within-bytes, after-first-line, next}
+use Rattle.floor.specs.Refusal.{accepted, within-bytes, after-first-line, next}
 use Rattle.floor.specs.Plan.{Road, Cart, Plan, joined}
 use Rattle.floor.specs.Roads.{cell-range, road-ranges, road, roads-from, read-roads}
 use Rattle.floor.specs.Carts.{number-or-empty, fastest-range, slowest-range, cart, carts-from, read-carts}
@@ -27,6 +27,7 @@ use Rattle.floor.proofs.Judging.{accepted-same, bind-accepted, then-acc
 abbrev pub Each : {A : Type 0} → (A → Type 0) → List A → Type 0
 Each {A} P l = (x : A) → List·Memᴰ x l → P x
 
+-- none of an empty list is otherwise
 each-none : {A : Type 0} (P : A → Type 0) → Each P []
 each-none P x m = absurd (List·Memᴰ·not-nil m)
 
@@ -46,6 +47,7 @@ pub record SoundRoad (d : Road) : Type 0 where
   pub some-margin : 1 ≤ d .margin
   pub twice-below : 2 * d .margin < d .length
 
+-- the test of the ranges, read back
 ranges-sound : (d : Road) → T (road-ranges d) → SoundRoad d
 unfolding road-ranges
 ranges-sound d t =
@@ -61,6 +63,7 @@ ranges-sound d t =
       twice-below = ltb→lt _ _ below;
     }
 
+-- so of a record that is taken for a road
 road-sound : (before : List Road) (r : List ℕ) (d : Road) → road before r ≡ accepted d → SoundRoad d
 unfolding road
 road-sound before r d e =
@@ -72,6 +75,7 @@ road-sound before r d e =
     let (_, e5) = then-accepted (leb (next before) 1024) Limit Roads _ _ d e4 in
     subst SoundRoad (accepted-same n d e5) (ranges-sound n t)
 
+-- of all roads, if of those before
 roads-sound : (rs : List (List ℕ)) (before ds : List Road) → Each SoundRoad before → roads-from before rs ≡ accepted ds → Each SoundRoad ds
 unfolding roads-from
 roads-sound [] before ds h e = subst (Each SoundRoad) (accepted-same before ds e) h
@@ -79,6 +83,7 @@ roads-sound (r ∷ rs) before ds h e =
     let (d, one, rest) = bind-accepted (road before r) (λ (x : Road). roads-from (before ++ (x ∷ [])) rs) ds e in
     roads-sound rs (before ++ (d ∷ [])) ds (each-more SoundRoad before d h (road-sound before r d one)) rest
 
+-- of the whole table
 read-roads-sound : (b : List ℕ) (ds : List Road) → read-roads b ≡ accepted ds → Each SoundRoad ds
 unfolding read-roads
 read-roads-sound b ds e =
@@ -93,6 +98,7 @@ pub record SoundCart (c : Cart) : Type 0 where
   pub fast : 1000 ≤ c .fastest
   pub slow : (s : ℕ) → c .slowest ≡ some s → (1000 ≤ s) × (s ≤ c .fastest)
 
+-- the test of the slowest speed, read back
 slowest-sound : (f : ℕ) (o : Option ℕ) → T (slowest-range f o) → (s : ℕ) → o ≡ some s → (1000 ≤ s) × (s ≤ f)
 unfolding slowest-range
 slowest-sound f none t s e = absurd (Option·none-ne-some _ e)
@@ -101,12 +107,14 @@ slowest-sound f (some x) t s e =
     let q : x ≡ s = Option·some-injective _ _ e in
     (subst (λ (y : ℕ). 1000 ≤ y) q (leb→le 1000 x least), subst (λ (y : ℕ). y ≤ f) q (leb→le x f most))
 
+-- both speeds
 speeds-sound : (f : ℕ) (s : Option ℕ) → T (fastest-range f && slowest-range f s) → SoundCart (record { fastest = f; slowest = s })
 unfolding fastest-range
 speeds-sound f s t =
     let (fast, slow) = and-yes (fastest-range f) (slowest-range f s) t in
     record { fast = leb→le 1000 f (and-yes (leb 1000 f) _ fast .0); slow = slowest-sound f s slow }
 
+-- so of a record that is taken for a cart, which is at most the 64th
 cart-sound : (before : List Cart) (r : List ℕ) (c : Cart) → cart before r ≡ accepted c → SoundCart c × (suc (length before) ≤ 64)
 unfolding cart next
 cart-sound before r c e =
@@ -118,6 +126,7 @@ cart-sound before r c e =
     let (l, e5) = then-accepted (leb (suc (length before)) 64) Limit Carts _ _ c e4 in
     (subst SoundCart (accepted-same _ c e5) (speeds-sound f s t), leb→le _ _ l)
 
+-- of all carts, if of those before; and they are at most 64
 carts-sound : (rs : List (List ℕ)) (before cs : List Cart) → Each SoundCart before → length before ≤ 64
     → carts-from before rs ≡ accepted cs → Each SoundCart cs × (length cs ≤ 64)
 unfolding carts-from
@@ -127,6 +136,7 @@ carts-sound (r ∷ rs) before cs h l e =
     let (good, few) = cart-sound before r c one in
     carts-sound rs (before ++ (c ∷ [])) cs (each-more SoundCart before c h good) (omega (arith, length-append before (c ∷ []), few)) rest
 
+-- of the whole table, which has a cart
 read-carts-sound : (b : List ℕ) (cs : List Cart) → read-carts b ≡ accepted cs → Each SoundCart cs × (length cs ≤ 64) × (1 ≤ length cs)
 unfolding read-carts
 read-carts-sound b cs e =
@@ -145,6 +155,7 @@ unfolding widen
 some-widened b [] = omega arith
 some-widened b (f ∷ fs) = omega arith
 
+-- a byte before a field or a comma between two leaves at least one
 some-field : (r : List ℕ) → 1 ≤ length (fields r)
 unfolding fields
 some-field [] = omega arith
@@ -170,6 +181,7 @@ numbers-length (f ∷ fs) ns e = by (number f) (numbers fs) (numbers-length fs) 
 abbrev Wide : List (List ℕ) → List ℕ → Type 0
 Wide all q = (length q ≡ steps all) × (1 ≤ length q)
 
+-- a record that is taken for a path is as wide as the first before it
 path-sound : (before : List (List ℕ)) (r q : List ℕ) → path before r ≡ accepted q → T (same-width before (length q)) × (1 ≤ length q)
 unfolding path
 path-sound before r q e =
@@ -187,6 +199,7 @@ unfolding same-width steps
 wide-more [] q h t l = each-more (Wide (q ∷ [])) [] q (each-none (Wide (q ∷ []))) (refl, l)
 wide-more (p ∷ ps) q h t l = each-more (Wide (p ∷ ps)) (p ∷ ps) q h (sym (eqb→eq (length p) (length q) t), l)
 
+-- of all paths, if of those before
 paths-sound : (rs before ps : List (List ℕ)) → Each (Wide before) before → paths-from before rs ≡ accepted ps → Each (Wide ps) ps
 unfolding paths-from
 paths-sound [] before ps h e = subst (λ (x : List (List ℕ)). Each (Wide x) x) (accepted-same before ps e) h
@@ -195,6 +208,7 @@ paths-sound (r ∷ rs) before ps h e =
     let (same, some-cell) = path-sound before r q one in
     paths-sound rs (before ++ (q ∷ [])) ps (wide-more before q h same some-cell) rest
 
+-- of the whole table, which has as many paths as there are carts
 read-paths-sound : (carts : ℕ) (b : List ℕ) (ps : List (List ℕ)) → read-paths carts b ≡ accepted ps → Each (Wide ps) ps × (length ps ≡ carts)
 unfolding read-paths
 read-paths-sound carts b ps e =
@@ -304,6 +318,7 @@ pub record Sound (p : Plan) : Type 0 where
   pub apart : (i j s : ℕ) → i < j → j < length (p .paths) → s < steps (p .paths)
       → at-step s (getD (p .paths) i []) ≢ at-step s (getD (p .paths) j [])
 
+-- tables without a refusal up to 9 give a sound plan: each of the steps of `read-tables` accepted
 pub accepted-sound : (ts : Tables) (p : Plan) → read-tables ts ≡ accepted p → Sound p
 unfolding read-tables
 accepted-sound ts p e =

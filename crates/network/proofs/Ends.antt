@@ -1,15 +1,15 @@
 -- Where bounds begin and end: every one goes between events, and every event but the start is entered by one from before it.
 -- Assumes nothing.
-use Prim.Native.Nat.{ℕ, zero, suc, _+_, _*_, _-_, _≤_, _<_}
+use Prim.Native.Nat.{ℕ, zero, suc, _+_, _-_, _≤_, _<_}
 use native.Mathlib.Nat.{eq-or-lt-of-le}
 use native.Mathlib.Omega.{arith}
 use mathlib.Core.Path.{_≡_, refl, ap, sym, _∙_, subst}
-use mathlib.Core.Logic.{_⊎_, ⊎-elim}
+use mathlib.Core.Logic.{⊎-elim}
 use mathlib.Core.Bool.{Bool, true, false, _&&_, cond}
-use mathlib.Core.List.{List, [], _∷_, _++_, map, flatMap, List·Memᴰ, List·Memᴰ·head, List·Memᴰ·tail, List·Memᴰ·not-nil, List·Memᴰ·cases-cons, List·Memᴰ·append-cases, Memᴰ·append-left, Memᴰ·append-right, Memᴰ·map, Memᴰ·of-map}
-use mathlib.Core.Option.{Option, none, some, Option·none-ne-some, Option·some-injective}
+use mathlib.Core.List.{List, [], _∷_, _++_, flatMap, List·Memᴰ, List·Memᴰ·head, List·Memᴰ·tail, List·Memᴰ·not-nil, List·Memᴰ·cases-cons}
+use mathlib.Core.Option.{some, Option·none-ne-some, Option·some-injective}
 use lib.Dec.{T, eqb, eqb→eq}
-use lib.ListN.{length, getD, length-append}
+use lib.ListN.{length, getD}
 use mir.Facts.{and-yes}
 use Rattle.floor.specs.Plan.{Road, Cart, Plan}
 use Rattle.floor.specs.Refusal.{accepted}
@@ -18,9 +18,9 @@ use Rattle.floor.proofs.Accepted.{Sound}
 use Rattle.network.specs.Events.{Visit, visits-of, Kind, approach, entry, leave, Point, points, points-after, Route, routes, routes-of, route-points, event-count, finish-event, places, route-events, last-event, same-kind, find-point, event-of}
 use Rattle.network.specs.Bounds.{Bound, no-earlier, part-lengths, Part, parts, parts-after, route-parts, part-bounds, bounds}
 use Rattle.network.specs.Judge.{judge}
-use Rattle.network.proofs.Members.{to-flat, of-flat, places-append, places-within, in-places}
+use Rattle.network.proofs.Members.{of-flat, places-append, places-within, in-places}
 use Rattle.network.proofs.Judged.{judged-sound}
-use Rattle.network.proofs.Sorts.{along, Order, Sort, starts, travels, orders, finishes, sort-of, start-there, travel-there, finish-there, start-in, travel-in, finish-in}
+use Rattle.network.proofs.Sorts.{along, Sort, starts, travels, orders, finishes, sort-of, start-there, travel-there, finish-there, start-in, travel-in, finish-in}
 use Rattle.network.proofs.Routes.{Origin, origin, path-there, some-route, event-count-is}
 
 -- ---- the numbers of the points
@@ -107,6 +107,7 @@ found k t e (p ∷ ps) v d q = by (same-kind k (p .kind) && eqb t (p .step)) ref
         (0, omega (arith, Option·some-injective _ _ q), omega arith, same-kind-is k (p .kind) kind, sym (eqb→eq t (p .step) step))
     by false b q rest = let (i, v-is, l, kind, step) = rest q in (suc i, omega (arith, v-is), omega (arith, l), kind, step)
 
+-- of a route's points
 pub event-found : (k : Kind) (r : Route) (x : Visit) (v : ℕ) (d : Point) → event-of k r x ≡ some v
     → (i : ℕ) × (v ≡ r .first + i) × (i < length (route-points r)) × (getD (route-points r) i d .kind ≡ k) × (getD (route-points r) i d .step ≡ x .step)
 unfolding event-of
@@ -179,9 +180,11 @@ along-at p s r m i l =
 
 -- ---- every bound goes between events
 
+-- both ends are events
 abbrev pub Between : Plan → Bound → Type 0
 Between p b = (b .from < event-count p) × (b .to < event-count p)
 
+-- of each sort: its ends are the start, the finish or points of a route, and a route of a sound plan has a point
 between-sort : (p : Plan) → Sound p → (b : Bound) → Sort p b → Between p b
 unfolding no-earlier last-event finish-event
 between-sort p s b (starts r m e) =
@@ -197,9 +200,11 @@ between-sort p s b (orders o) =
 between-sort p s b (finishes r m e) =
     let (_, most) = route-within p r m in subst (Between p) (sym e) (omega (arith, some-point p s r m, most), omega (arith, most))
 
+-- of every sound plan
 pub sound-bounds-between : (p : Plan) → Sound p → (b : Bound) → List·Memᴰ b (bounds p) → Between p b
 sound-bounds-between p s b m = between-sort p s b (sort-of p b m)
 
+-- of every accepted plan
 pub bounds-between : (ts : Tables) (p : Plan) → judge ts ≡ accepted p → (b : Bound) → List·Memᴰ b (bounds p) → (b .from < event-count p) × (b .to < event-count p)
 bounds-between ts p e b m = sound-bounds-between p (judged-sound ts p e) b m
 
@@ -233,6 +238,7 @@ point-entered p s r m e l h = ⊎-elim first-one later-one (eq-or-lt-of-le l)
         let (b, n, from, to) = along-at p s r m (e - suc (r .first)) (omega (arith, k, h)) in
         (b, travel-there p b (travel-in (p .roads) (routes-of p) r b m n), omega (arith, to, k), omega (arith, from, k))
 
+-- every number but 0 is that of the finish or of a point of a route
 pub sound-entered : (p : Plan) → Sound p → (e : ℕ) → 0 < e → e < event-count p → Entered p e
 unfolding route-events
 sound-entered p s e l h = ⊎-elim (λ q. finish-entered p s e q) inner (eq-or-lt-of-le h)
@@ -247,6 +253,7 @@ sound-entered p s e l h = ⊎-elim (λ q. finish-entered p s e q) inner (eq-or-l
         let (least, most) = places-within (r .first) (route-points r) e n in
         point-entered p s r m e least most
 
+-- of every accepted plan
 pub entered : (ts : Tables) (p : Plan) → judge ts ≡ accepted p → (e : ℕ) → 0 < e → e < event-count p
     → (b : Bound) × List·Memᴰ b (bounds p) × (b .to ≡ e) × (b .from < e)
 entered ts p q e l h = sound-entered p (judged-sound ts p q) e l h

@@ -1,6 +1,6 @@
 -- What acceptance says of a plan, its limits of events and bounds included. Assumes nothing.
-use Prim.Native.Nat.{ℕ, _≤_}
-use mathlib.Core.Path.{_≡_, subst, sym}
+use Prim.Native.Nat.{_≤_}
+use mathlib.Core.Path.{_≡_, subst}
 use lib.Dec.{leb, leb→le}
 use lib.ListN.{length}
 use Rattle.floor.specs.declared.Reason.the-variants.{Limit}
@@ -22,6 +22,7 @@ within-accepted q p e =
     let (count, e2) = then-accepted (leb (length (bounds q)) 8192) Limit Paths 0 (accepted q) p e1 in
     (accepted-same q p e2, leb→le _ _ events, leb→le _ _ count)
 
+-- tables that are accepted were read, and are within the limits
 pub judged : (ts : Tables) (p : Plan) → judge ts ≡ accepted p
     → (read-tables ts ≡ accepted p) × (event-count p ≤ 4096) × (length (bounds p) ≤ 8192)
 unfolding judge

@@ -4,24 +4,26 @@ use native.Mathlib.Omega.{arith}
 use mathlib.Core.Path.{_≡_, refl, ap, ap₂, sym, _∙_, subst}
 use mathlib.Core.Logic.{⊎-elim}
 use mathlib.Core.List.{List, [], _∷_, List·Memᴰ, List·Memᴰ·head, List·Memᴰ·tail, List·Memᴰ·not-nil, List·Memᴰ·cases-cons}
-use mathlib.Core.Option.{some}
+use mathlib.Core.Bool.{Bool, true, false, _&&_, cond}
+use mathlib.Core.Option.{some, Option·none-ne-some, Option·some-injective}
+use lib.Dec.{T, eqb, ltb, ltb→lt}
 use lib.ListN.{length, getD}
+use mir.Facts.{and-yes}
 use Rattle.floor.specs.Plan.{Plan}
 use Rattle.floor.specs.Paths.{steps}
 use Rattle.floor.specs.Refusal.{accepted}
 use Rattle.floor.specs.Tables.{Tables}
 use Rattle.floor.proofs.Accepted.{Sound}
-use Rattle.network.specs.Events.{Visit, Kind, approach, entry, leave, Point, point, points-after, points, Route, routes-of, route-points, start, finish, passing, events, event-count, finish-event, last-event, event-of}
-use Rattle.network.specs.Bounds.{Bound, no-earlier, bounds}
+use Rattle.network.specs.Events.{Visit, Kind, approach, entry, leave, Point, point, points-after, points, Route, routes-of, route-points, start, passing, events, event-count, finish-event, last-event, event-of}
+use Rattle.network.specs.Bounds.{Bound, no-earlier, first-later, bounds}
 use Rattle.network.specs.Judge.{judge}
 use Rattle.network.specs.Levels.{kind-level, point-level, level, level-of}
 use Rattle.network.proofs.Judged.{judged-sound}
 use Rattle.network.proofs.Members.{at-place}
-use Rattle.network.proofs.Routes.{Origin, origin}
-use Rattle.network.proofs.Sorts.{along, Order, Sort, starts, travels, orders, finishes, sort-of}
-use Rattle.network.proofs.Ends.{route-within, some-visit, some-point, event-found, along-ends}
-use Rattle.network.proofs.Visits.{rising-apart, step-of, route-rises, points-rise, visit-there, kind-most}
-use Rattle.network.proofs.Order.{first-later-is}
+use Rattle.network.proofs.Routes.{origin}
+use Rattle.network.proofs.Sorts.{Order, Sort, starts, travels, orders, finishes, sort-of}
+use Rattle.network.proofs.Ends.{route-within, some-point, event-found, along-ends}
+use Rattle.network.proofs.Visits.{rising-apart, route-rises, points-rise, visit-there, kind-most}
 use Rattle.network.proofs.Places.{point-placed, finish-placed}
 
 -- what stands at a place of a list does not hang on what would stand past its end
@@ -65,6 +67,7 @@ points-after-step x (y ∷ ys) q m =
     (List·Memᴰ·cases-cons m))
     (List·Memᴰ·cases-cons m)
 
+-- of all points of a route
 points-step : (vs : List Visit) (q : Point) → List·Memᴰ q (points vs) → (v : Visit) × List·Memᴰ v vs × (q .step ≡ v .step)
 unfolding points point
 points-step [] q m = absurd (List·Memᴰ·not-nil m)
@@ -88,6 +91,7 @@ above-start (x ∷ xs) d h = omega arith
 
 -- ---- bounds
 
+-- a bound that goes up
 abbrev pub Up : Plan → Bound → Type 0
 Up p b = level-of p (b .from) < level-of p (b .to)
 
@@ -95,6 +99,7 @@ Up p b = level-of p (b .from) < level-of p (b .to)
 abbrev no-point : Point
 no-point = record { kind = entry; cell = 0; step = 0 }
 
+-- from the start to an entry
 start-up : (p : Plan) → Sound p → (r : Route) → List·Memᴰ r (routes-of p) → level-of p 0 < level-of p (r .first)
 unfolding route-points
 start-up p s r m =
@@ -103,6 +108,7 @@ start-up p s r m =
     let at : level-of p (r .first) ≡ point-level (getD (route-points r) 0 no-point) = ap (level-of p) (sym same) ∙ point-level-at p r m 0 no-point one in
     omega (arith, start-level p, at, above-start (r .visits) no-point one)
 
+-- from a point to the next
 travel-up : (p : Plan) → Sound p → (r : Route) → List·Memᴰ r (routes-of p) → (i : ℕ) → suc i < length (route-points r)
     → level-of p (r .first + i) < level-of p (suc (r .first + i))
 unfolding route-points
@@ -122,14 +128,29 @@ event-level p k r x u m e =
     let (i, u-is, l, kind, step) = event-found k r x u no-point e in
     ap (level-of p) u-is ∙ point-level-at p r m i no-point l ∙ ap₂ (λ (s : ℕ) (c : Kind). 3 * s + kind-level c) step kind
 
+-- the first later visit is later
+pub later-step : (x : Visit) (ys : List Visit) (z : Visit) → first-later x ys ≡ some z → x .step < z .step
+unfolding first-later
+later-step x [] z e = absurd (Option·none-ne-some _ e)
+later-step x (y ∷ ys) z e = by (ltb (x .step) (y .step) && eqb (x .cell) (y .cell)) refl e (later-step x ys z)
+  where
+    by : (b : Bool) → (ltb (x .step) (y .step) && eqb (x .cell) (y .cell)) ≡ b → cond b (some y) (first-later x ys) ≡ some z
+        → (first-later x ys ≡ some z → x .step < z .step) → x .step < z .step
+    by true b e rest =
+        let (later, _) = and-yes (ltb (x .step) (y .step)) (eqb (x .cell) (y .cell)) (subst T (sym b) tt) in
+        subst (λ (v : Visit). x .step < v .step) (Option·some-injective _ _ e) (ltb→lt _ _ later)
+    by false b e rest = rest e
+
+-- from a leave point to the approach point of a visit that begins later
 order-up : (p : Plan) (b : Bound) (o : Order (routes-of p) b) → level-of p (o .behind) < level-of p (o .before)
 unfolding kind-level
 order-up p b o =
-    let (_, l, _) = first-later-is (o .x) (o .k .visits) (o .y) (o .later) in
+    let l : o .x .step < o .y .step = later-step (o .x) (o .k .visits) (o .y) (o .later) in
     let low : _ = event-level p leave (o .j) (o .x) (o .behind) (o .j-there) (o .leaves) in
     let high : _ = event-level p approach (o .k) (o .y) (o .before) (o .k-there) (o .approaches) in
     omega (arith, l, low, high)
 
+-- from a point to the finish
 finish-up : (p : Plan) → Sound p → (r : Route) → List·Memᴰ r (routes-of p) → level-of p (last-event r) < level-of p (finish-event p)
 unfolding last-event
 finish-up p s r m =
@@ -138,11 +159,12 @@ finish-up p s r m =
     let l : n - 1 < n = omega (arith, one) in
     let same : r .first + n - 1 ≡ r .first + (n - 1) = omega (arith, one) in
     let at : level-of p (r .first + n - 1) ≡ point-level (getD (route-points r) (n - 1) no-point) =
-        ap (level-of p) same ∙ point-level-at p r m (n - 1) no-point l
+    ap (level-of p) same ∙ point-level-at p r m (n - 1) no-point l
     in
     let below : _ = below-finish p s r m (getD (route-points r) (n - 1) no-point) (at-place (route-points r) (n - 1) no-point l) in
     omega (arith, at, below, finish-level p)
 
+-- bounds of each sort do
 rise-sort : (p : Plan) → Sound p → (b : Bound) → Sort p b → Up p b
 unfolding no-earlier
 rise-sort p s b (starts r m e) = subst (Up p) (sym e) (start-up p s r m)
@@ -155,8 +177,10 @@ rise-sort p s b (travels r m i) =
 rise-sort p s b (orders o) = subst (Up p) (sym (o .is)) (order-up p b o)
 rise-sort p s b (finishes r m e) = subst (Up p) (sym e) (finish-up p s r m)
 
+-- of every sound plan
 pub sound-bounds-rise : (p : Plan) → Sound p → (b : Bound) → List·Memᴰ b (bounds p) → level-of p (b .from) < level-of p (b .to)
 sound-bounds-rise p s b m = rise-sort p s b (sort-of p b m)
 
+-- of every accepted plan
 pub bounds-rise : (ts : Tables) (p : Plan) → judge ts ≡ accepted p → (b : Bound) → List·Memᴰ b (bounds p) → level-of p (b .from) < level-of p (b .to)
 bounds-rise ts p e b m = sound-bounds-rise p (judged-sound ts p e) b m

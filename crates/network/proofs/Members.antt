@@ -65,6 +65,7 @@ places-within e (x ∷ xs) n m =
     (λ t. let (l, h) = places-within (suc e) xs n t in (omega (arith, l), omega (arith, h)))
     (List·Memᴰ·cases-cons m)
 
+-- and every number from the first on, as many as there are things, is one of them
 pub in-places : {A : Type 0} (e : ℕ) (xs : List A) (n : ℕ) → e ≤ n → n < e + length xs → List·Memᴰ n (places e xs)
 unfolding places
 in-places e [] n l h = absurd (omega arith)

@@ -8,40 +8,39 @@ use mathlib.Core.Logic.{_≢_, ⊎-elim}
 use mathlib.Core.Bool.{Bool, true, false, _&&_, cond}
 use mathlib.Core.List.{List, [], _∷_, flatMap, List·Memᴰ, List·Memᴰ·head, List·Memᴰ·tail}
 use mathlib.Core.Option.{Option, none, some, Option·none-ne-some, Option·some-injective}
-use lib.Dec.{T, eqb, ltb, eqb→eq, ltb→lt, lt→ltb, eqb-refl}
-use lib.IntN.{ℤ, pos, _-ℤ_}
+use lib.Dec.{T, eqb, ltb, eqb→eq, lt→ltb, eqb-refl}
 use lib.Signed.{_≤ℤ_}
 use lib.ListN.{length, getD}
 use mir.Facts.{and-yes, yes-and}
 use Rattle.signed.proofs.Signed.{signed, difference}
 use Rattle.floor.specs.Plan.{Plan}
 use Rattle.floor.proofs.Accepted.{Sound}
-use Rattle.network.specs.Events.{Visit, approach, leave, Route, routes-of, route-points, event-of, last-event, finish-event}
+use Rattle.network.specs.Events.{Visit, approach, leave, Route, routes-of, route-points, event-of, finish-event}
 use Rattle.network.specs.Bounds.{Bound, no-earlier, start-bounds, travel-bounds, first-later, between, order-bound, order-bounds-to, order-bounds, finish-bounds, bounds}
 use Rattle.network.specs.Meaning.{Times, Meets, MeetsAll, InOrder, KeepsOrder, Demand-2}
 use Rattle.network.proofs.Judged.{judged-sound}
-use Rattle.network.proofs.Members.{to-flat, at-place, place-of}
-use Rattle.network.proofs.Sorts.{Order, Sort, starts, travels, orders, finishes, sort-of, start-there, travel-there, order-there, finish-there, start-in, travel-in, finish-in}
+use Rattle.network.proofs.Members.{to-flat, place-of}
+use Rattle.network.proofs.Sorts.{Sort, starts, travels, orders, finishes, sort-of, start-there, travel-there, order-there, finish-there, start-in, travel-in, finish-in}
 use Rattle.network.proofs.Ends.{along-at, event-found}
 use Rattle.network.proofs.Visits.{step-of, rising-apart, route-rises, leave-there, approach-there, later-larger}
+use Rattle.network.proofs.Levels.{later-step}
 
 -- ---- the first later visit to a cell
 
--- it is a visit, later, and to that cell
-pub first-later-is : (x : Visit) (ys : List Visit) (z : Visit) → first-later x ys ≡ some z → List·Memᴰ z ys × (x .step < z .step) × (x .cell ≡ z .cell)
+-- it is a visit, and to that cell
+first-later-visits : (x : Visit) (ys : List Visit) (z : Visit) → first-later x ys ≡ some z → List·Memᴰ z ys × (x .cell ≡ z .cell)
 unfolding first-later
-first-later-is x [] z e = absurd (Option·none-ne-some _ e)
-first-later-is x (y ∷ ys) z e = by (ltb (x .step) (y .step) && eqb (x .cell) (y .cell)) refl e (first-later-is x ys z)
+first-later-visits x [] z e = absurd (Option·none-ne-some _ e)
+first-later-visits x (y ∷ ys) z e = by (ltb (x .step) (y .step) && eqb (x .cell) (y .cell)) refl e (first-later-visits x ys z)
   where
     by : (b : Bool) → (ltb (x .step) (y .step) && eqb (x .cell) (y .cell)) ≡ b → cond b (some y) (first-later x ys) ≡ some z
-        → (first-later x ys ≡ some z → List·Memᴰ z ys × (x .step < z .step) × (x .cell ≡ z .cell))
-        → List·Memᴰ z (y ∷ ys) × (x .step < z .step) × (x .cell ≡ z .cell)
+        → (first-later x ys ≡ some z → List·Memᴰ z ys × (x .cell ≡ z .cell))
+        → List·Memᴰ z (y ∷ ys) × (x .cell ≡ z .cell)
     by true b e rest =
-        let (later, same) = and-yes (ltb (x .step) (y .step)) (eqb (x .cell) (y .cell)) (subst T (sym b) tt) in
+        let (_, same) = and-yes (ltb (x .step) (y .step)) (eqb (x .cell) (y .cell)) (subst T (sym b) tt) in
         let q : y ≡ z = Option·some-injective _ _ e in
-        subst (λ (v : Visit). List·Memᴰ v (y ∷ ys) × (x .step < v .step) × (x .cell ≡ v .cell)) q
-        (List·Memᴰ·head refl, ltb→lt _ _ later, eqb→eq _ _ same)
-    by false b e rest = let (m, l, c) = rest e in (List·Memᴰ·tail m, l, c)
+        (List·Memᴰ·head (sym q), eqb→eq _ _ same ∙ ap (λ (v : Visit). v .cell) q)
+    by false b e rest = let (m, c) = rest e in (List·Memᴰ·tail m, c)
 
 -- where there is a later visit to that cell, one is found, at that place or before
 first-later-found : (x : Visit) (ys : List Visit) (b : ℕ) (d : Visit) → b < length ys → x .step < getD ys b d .step → x .cell ≡ getD ys b d .cell
@@ -62,10 +61,12 @@ first-later-found x (y ∷ ys) b d l s c = by (ltb (x .step) (y .step) && eqb (x
 
 -- ---- the order bound to it
 
+-- both events are there
 between-there : (u v : ℕ) (o q : Option ℕ) → o ≡ some u → q ≡ some v → List·Memᴰ (no-earlier u v) (between o q)
 unfolding between
 between-there u v o q e f = rw (e, f) (List·Memᴰ·head refl)
 
+-- k is another cart, and the visit is there
 order-to-there : (j k : Route) (x z : Visit) (u v : ℕ) → j .number ≢ k .number → first-later x (k .visits) ≡ some z
     → event-of leave j x ≡ some u → event-of approach k z ≡ some v → List·Memᴰ (no-earlier u v) (order-bounds-to j x k)
 unfolding order-bounds-to order-bound
@@ -80,6 +81,7 @@ order-to-there j k x z u v ne f l a = by (eqb (j .number) (k .number)) refl
     by true e = absurd (ne (eqb→eq _ _ (subst T (sym e) tt)))
     by false e = first-one (first-later x (k .visits)) f
 
+-- it is among the order bounds, at j, then x, then k
 order-in : (rs : List Route) (j k : Route) (x z : Visit) (u v : ℕ) → List·Memᴰ j rs → List·Memᴰ k rs → List·Memᴰ x (j .visits) → j .number ≢ k .number
     → first-later x (k .visits) ≡ some z → event-of leave j x ≡ some u → event-of approach k z ≡ some v
     → List·Memᴰ (no-earlier u v) (order-bounds rs)
@@ -100,6 +102,7 @@ order-met : (t : Times) (u v : ℕ) → Meets t (no-earlier u v) → t u ≤ℤ 
 unfolding no-earlier
 order-met t u v m = not-before t (no-earlier u v) m
 
+-- and whoever is in order meets it
 meet-order : (t : Times) (u v : ℕ) → t u ≤ℤ t v → Meets t (no-earlier u v)
 unfolding no-earlier
 meet-order t u v l =
@@ -152,6 +155,7 @@ first-approached p s t meets k m a b d l h u v eu ev = ⊎-elim same later (eq-o
         let v-is : t v ≡ t (k .first + (i + (j - i))) = ap t sum-is in
         omega (signed, up, u-is, v-is)
 
+-- from the leave point to the approach of the first later visit by the order bound, and on along the route of k to the approach of y
 keeps-order : (p : Plan) → Sound p → (t : Times) → MeetsAll t (bounds p) → KeepsOrder p t
 keeps-order p s t meets j k mj mk ne x y nx ny c l =
     let none-there : Visit = record { step = 0; cell = 0 } in
@@ -160,7 +164,8 @@ keeps-order p s t meets j k mj mk ne x y nx ny c l =
     let same : x .cell ≡ getD (k .visits) b none-there .cell = c ∙ ap (λ (v : Visit). v .cell) (sym e) in
     let (a, ab, f) = first-later-found x (k .visits) b none-there h later same in
     let z : Visit = getD (k .visits) a none-there in
-    let (mz, lz, cz) = first-later-is x (k .visits) z f in
+    let (mz, _) = first-later-visits x (k .visits) z f in
+    let lz : x .step < z .step = later-step x (k .visits) z f in
     let (u, lu) = leave-there p s j k mj mk ne x y nx ny c l in
     let (w, aw) = approach-there p k mk z mz (omega (arith, lz)) in
     let (v, av) = approach-there p k mk y ny (omega (arith, l)) in
@@ -175,12 +180,14 @@ keeps-order p s t meets j k mj mk ne x y nx ny c l =
 
 -- ---- the bounds, from keeping order
 
+-- start, travel and finish bounds are met as they stand, and an order bound goes between two visits that keep their order
 meets-bound : (p : Plan) (t : Times) → MeetsAll t (start-bounds (routes-of p)) → MeetsAll t (travel-bounds (p .roads) (routes-of p))
     → MeetsAll t (finish-bounds (finish-event p) (routes-of p)) → KeepsOrder p t → (b : Bound) → Sort p b → Meets t b
 meets-bound p t ms mt mf keeps b (starts r m e) = subst (Meets t) (sym e) (ms _ (start-in (routes-of p) r m))
 meets-bound p t ms mt mf keeps b (travels r m i) = mt b (travel-in (p .roads) (routes-of p) r b m i)
 meets-bound p t ms mt mf keeps b (orders o) =
-    let (my, l, c) = first-later-is (o .x) (o .k .visits) (o .y) (o .later) in
+    let (my, c) = first-later-visits (o .x) (o .k .visits) (o .y) (o .later) in
+    let l : o .x .step < o .y .step = later-step (o .x) (o .k .visits) (o .y) (o .later) in
     let kept : InOrder t (o .j) (o .x) (o .k) (o .y) = keeps (o .j) (o .k) (o .j-there) (o .k-there) (o .others) (o .x) (o .y) (o .x-there) my c l in
     let u : kept .behind ≡ o .behind = Option·some-injective _ _ (sym (kept .leaves) ∙ o .leaves) in
     let v : kept .before ≡ o .before = Option·some-injective _ _ (sym (kept .approaches) ∙ o .approaches) in
@@ -192,6 +199,7 @@ meets-bound p t ms mt mf keeps b (finishes r m e) = subst (Meets t) (sym e) (mf 
 
 -- ---- demand 2
 
+-- both directions, for accepted tables
 pub demand-2 : Demand-2
 demand-2 ts p e t = (
   λ meets. (

@@ -1,14 +1,13 @@
 -- What the routes of a plan are: the i-th cart's, with the visits of the i-th path, numbered one route after the other from 1 on.
 -- Assumes nothing.
-use Prim.Native.Nat.{ℕ, zero, suc, _+_, _≤_, _<_}
+use Prim.Native.Nat.{ℕ, suc, _+_, _≤_, _<_}
 use native.Mathlib.Omega.{arith}
-use mathlib.Core.Path.{_≡_, refl, ap, sym, _∙_, subst}
+use mathlib.Core.Path.{_≡_, refl, sym, subst}
 use mathlib.Core.Logic.{⊎-elim}
-use mathlib.Core.List.{List, [], _∷_, _++_, map, flatMap, List·Memᴰ, List·Memᴰ·head, List·Memᴰ·tail, List·Memᴰ·not-nil, List·Memᴰ·cases-cons}
+use mathlib.Core.List.{List, [], _∷_, map, flatMap, List·Memᴰ, List·Memᴰ·head, List·Memᴰ·tail, List·Memᴰ·not-nil, List·Memᴰ·cases-cons}
 use lib.ListN.{length, getD, length-append, length-map}
 use Rattle.floor.specs.Plan.{Cart, Plan}
-use Rattle.floor.proofs.Accepted.{Sound}
-use Rattle.network.specs.Events.{Visit, visits-of, Point, points, Route, routes, routes-of, route-points, Event, start, finish, passing, events, event-count}
+use Rattle.network.specs.Events.{visits-of, points, Route, routes, routes-of, route-points, finish, passing, events, event-count}
 use Rattle.network.proofs.Members.{at-place}
 
 -- where a route comes from, among those of carts from number j on whose events are numbered from e on
@@ -51,6 +50,7 @@ from-there j e c cs p ps r h =
       most = omega (arith, h .most, length-append (points (visits-of p)) (flatMap route-points (routes (suc j) (e + length (points (visits-of p))) cs ps)));
     }
 
+-- every route comes from somewhere: the first, or one of the later
 route-from : (cs : List Cart) (ps : List (List ℕ)) (j e : ℕ) (r : Route) → List·Memᴰ r (routes j e cs ps) → From j e cs ps r
 unfolding routes
 route-from [] ps j e r m = absurd (List·Memᴰ·not-nil m)
@@ -65,6 +65,7 @@ route-from (c ∷ cs) (p ∷ ps) j e r m =
 abbrev pub Origin : Plan → Route → Type 0
 Origin p = From 1 1 (p .carts) (p .paths)
 
+-- every route of a plan does
 pub origin : (p : Plan) (r : Route) → List·Memᴰ r (routes-of p) → Origin p r
 unfolding routes-of
 origin p r m = route-from (p .carts) (p .paths) 1 1 r m

@@ -1,9 +1,9 @@
 -- How long a bound can make a part of a move last: at most 10^8 milliseconds. Assumes nothing.
-use Prim.Native.Nat.{ℕ, zero, suc, _+_, _*_, _-_, _/_, _≤_, _<_}
+use Prim.Native.Nat.{ℕ, suc, _+_, _*_, _-_, _/_, _≤_, _<_}
 use native.Mathlib.Nat.{div-lt-iff-lt-mul, div-le-of-le-mul, mul-le-mul-right}
 use native.Mathlib.Omega.{arith}
-use mathlib.Core.Path.{_≡_, refl, ap, sym, _∙_, subst}
-use mathlib.Core.Logic.{_⊎_, inl, inr, ⊎-elim}
+use mathlib.Core.Path.{_≡_, refl, sym, _∙_, subst}
+use mathlib.Core.Logic.{⊎-elim}
 use mathlib.Core.Bool.{Bool, true, false, cond}
 use mathlib.Core.List.{List, [], _∷_, List·Memᴰ, List·Memᴰ·head, List·Memᴰ·tail, List·Memᴰ·not-nil, List·Memᴰ·cases-cons, List·Memᴰ·append-cases, Memᴰ·of-map}
 use mathlib.Core.Option.{Option, none, some, Option·none-ne-some, Option·some-injective, Option·getD}
@@ -12,12 +12,12 @@ use Rattle.floor.specs.Plan.{Road, Cart, Plan, joins, road-between}
 use Rattle.floor.specs.Refusal.{accepted}
 use Rattle.floor.specs.Tables.{Tables}
 use Rattle.floor.proofs.Accepted.{Sound, SoundRoad, SoundCart}
-use Rattle.network.specs.Events.{Visit, Route, routes-of}
+use Rattle.network.specs.Events.{Visit}
 use Rattle.network.specs.Bounds.{Bound, no-earlier, part-lengths, Part, parts, div-up, least-time, most-time, road-of-move, parts-after, route-parts, part-bounds, bounds}
 use Rattle.network.specs.Judge.{judge}
 use Rattle.network.proofs.Judged.{judged-sound}
-use Rattle.network.proofs.Routes.{Origin, origin}
-use Rattle.network.proofs.Sorts.{along, Sort, starts, travels, orders, finishes, sort-of}
+use Rattle.network.proofs.Routes.{origin}
+use Rattle.network.proofs.Sorts.{Sort, starts, travels, orders, finishes, sort-of}
 
 -- ---- a part's times
 
@@ -49,6 +49,7 @@ road-found (r ∷ rs) a b d e = by (joins a b r) e (road-found rs a b d)
 abbrev Short : Road → Type 0
 Short d = (d .length ≤ 100_000_000) × (d .margin ≤ 100_000_000)
 
+-- twice the margin is below the length
 sound-short : (d : Road) → SoundRoad d → Short d
 sound-short d s = (s .most, omega (arith, s .most, s .twice-below))
 
@@ -68,6 +69,7 @@ move-short roads h x y = by (road-between roads (x .cell) (y .cell)) refl
 abbrev Fits : Cart → Part → Type 0
 Fits c part = (part .length ≤ 100_000_000) × (part .slowest ≡ c .slowest)
 
+-- no part is longer than its road or its margin
 lengths-short : (d : Road) → Short d → (l : ℕ) → List·Memᴰ l (part-lengths d) → l ≤ 100_000_000
 unfolding part-lengths
 lengths-short d s l m =
@@ -77,12 +79,14 @@ lengths-short d s l m =
     (List·Memᴰ·cases-cons m))
     (List·Memᴰ·cases-cons m)
 
+-- the parts of a cart's move along a road
 parts-fit : (c : Cart) (d : Road) → Short d → (part : Part) → List·Memᴰ part (parts c d) → Fits c part
 unfolding parts
 parts-fit c d s part m =
     let (l, there, e) = Memᴰ·of-map (λ (l : ℕ). record { length = l; slowest = c .slowest }) (part-lengths d) m in
     subst (Fits c) e (lengths-short d s l there, refl)
 
+-- the parts of all moves after a visit
 parts-after-fit : (roads : List Road) → ((d : Road) → List·Memᴰ d roads → SoundRoad d) → (c : Cart) (x : Visit) (ys : List Visit) (part : Part)
     → List·Memᴰ part (parts-after roads c x ys) → Fits c part
 unfolding parts-after
@@ -93,6 +97,7 @@ parts-after-fit roads h c x (y ∷ ys) part m =
     (parts-after-fit roads h c y ys part)
     (List·Memᴰ·append-cases (parts c (road-of-move roads x y)) m)
 
+-- the parts of all moves
 route-parts-fit : (roads : List Road) → ((d : Road) → List·Memᴰ d roads → SoundRoad d) → (c : Cart) (vs : List Visit) (part : Part)
     → List·Memᴰ part (route-parts roads c vs) → Fits c part
 unfolding route-parts
@@ -105,6 +110,7 @@ route-parts-fit roads h c (x ∷ xs) part m = parts-after-fit roads h c x xs par
 abbrev pub Small : Bound → Type 0
 Small b = (b .lo ≤ 100_000_000) × ((h : ℕ) → b .hi ≡ some h → h ≤ 100_000_000)
 
+-- a slowest speed is at least 1,000
 most-time-small : (c : Cart) → SoundCart c → (part : Part) → Fits c part → (h : ℕ) → most-time part ≡ some h → h ≤ 100_000_000
 unfolding most-time
 most-time-small c s part f h e = by (part .slowest) refl e
@@ -115,6 +121,7 @@ most-time-small c s part f h e = by (part .slowest) refl e
         let slow : 1000 ≤ v = s .slow v (sym (f .1) ∙ q) .0 in
         omega (arith, Option·some-injective _ _ e, div-most (part .length) v slow, f .0)
 
+-- the bounds of a cart's parts
 part-bounds-small : (c : Cart) → SoundCart c → (e : ℕ) (ps : List Part) → ((part : Part) → List·Memᴰ part ps → Fits c part)
     → (b : Bound) → List·Memᴰ b (part-bounds c e ps) → Small b
 unfolding part-bounds least-time
@@ -131,6 +138,7 @@ no-earlier-small : (u v : ℕ) → Small (no-earlier u v)
 unfolding no-earlier
 no-earlier-small u v = (omega arith, λ h e. absurd (Option·none-ne-some _ e))
 
+-- of each sort: travel bounds by their parts, the others hold no number but 0
 small-sort : (p : Plan) → Sound p → (b : Bound) → Sort p b → Small b
 small-sort p s b (starts r m e) = subst Small (sym e) (omega arith, λ h q. omega (arith, Option·some-injective _ _ q))
 small-sort p s b (travels r m i) =
@@ -139,9 +147,11 @@ small-sort p s b (travels r m i) =
 small-sort p s b (orders o) = subst Small (sym (o .is)) (no-earlier-small (o .behind) (o .before))
 small-sort p s b (finishes r m e) = subst Small (sym e) (no-earlier-small _ _)
 
+-- of every sound plan
 pub sound-bound-sizes : (p : Plan) → Sound p → (b : Bound) → List·Memᴰ b (bounds p) → Small b
 sound-bound-sizes p s b m = small-sort p s b (sort-of p b m)
 
+-- of every accepted plan
 pub bound-sizes : (ts : Tables) (p : Plan) → judge ts ≡ accepted p → (b : Bound) → List·Memᴰ b (bounds p)
     → (b .lo ≤ 100_000_000) × ((h : ℕ) → b .hi ≡ some h → h ≤ 100_000_000)
 bound-sizes ts p e b m = sound-bound-sizes p (judged-sound ts p e) b m

@@ -1,11 +1,11 @@
 -- Of what sort each bound of a plan is: a start, travel, order or finish bound, and of which routes. Assumes nothing.
-use Prim.Native.Nat.{ℕ, suc}
+use Prim.Native.Nat.{ℕ}
 use mathlib.Core.Path.{_≡_, refl, ap, sym, _∙_, subst}
-use mathlib.Core.Logic.{_≢_, _⊎_, ⊎-elim}
+use mathlib.Core.Logic.{_≢_, ⊎-elim}
 use mathlib.Core.Bool.{Bool, true, false, cond}
-use mathlib.Core.List.{List, [], _∷_, _++_, map, flatMap, List·Memᴰ, List·Memᴰ·head, List·Memᴰ·not-nil, List·Memᴰ·append-cases, List·Memᴰ·eq-of-singleton, Memᴰ·append-left, Memᴰ·append-right, Memᴰ·map, Memᴰ·of-map}
+use mathlib.Core.List.{List, [], flatMap, List·Memᴰ, List·Memᴰ·not-nil, List·Memᴰ·append-cases, List·Memᴰ·eq-of-singleton, Memᴰ·append-left, Memᴰ·append-right, Memᴰ·map, Memᴰ·of-map}
 use mathlib.Core.Option.{Option, none, some}
-use lib.Dec.{T, eqb, eqb→eq, eqb-refl}
+use lib.Dec.{T, eqb, eqb-refl}
 use Rattle.floor.specs.Plan.{Road, Plan}
 use Rattle.network.specs.Events.{Visit, approach, leave, Route, routes-of, event-of, last-event, finish-event}
 use Rattle.network.specs.Bounds.{Bound, no-earlier, start-bounds, route-parts, part-bounds, travel-bounds, first-later, between, order-bound, order-bounds-to, order-bounds, finish-bounds, bounds}
@@ -81,6 +81,7 @@ order-is rs j k x b mj mk mx ne (some y) e m =
 pub eqb-no : (a b : ℕ) → eqb a b ≡ false → a ≢ b
 eqb-no a b e q = subst T (ap (eqb a) q ∙ e) (eqb-refl a)
 
+-- the test for another cart was passed
 order-to-is : (rs : List Route) (j k : Route) (x : Visit) (b : Bound) → List·Memᴰ j rs → List·Memᴰ k rs → List·Memᴰ x (j .visits)
     → List·Memᴰ b (order-bounds-to j x k) → Order rs b
 unfolding order-bounds-to
@@ -90,6 +91,7 @@ order-to-is rs j k x b mj mk mx m = by (eqb (j .number) (k .number)) refl m
     by true e m = absurd (List·Memᴰ·not-nil m)
     by false e m = order-is rs j k x b mj mk mx (eqb-no (j .number) (k .number) e) (first-later x (k .visits)) refl m
 
+-- every order bound is one from some j, x and k
 pub orders-are : (rs : List Route) (b : Bound) → List·Memᴰ b (order-bounds rs) → Order rs b
 unfolding order-bounds
 orders-are rs b m =
@@ -100,6 +102,7 @@ orders-are rs b m =
 
 -- ---- every bound is of one of the sorts
 
+-- by the part of the list of bounds that it stands in
 pub sort-of : (p : Plan) (b : Bound) → List·Memᴰ b (bounds p) → Sort p b
 unfolding bounds start-bounds travel-bounds finish-bounds
 sort-of p b m =
@@ -116,33 +119,40 @@ sort-of p b m =
 
 -- ---- and those of each sort are there
 
+-- start bounds are bounds of the plan
 pub start-there : (p : Plan) (b : Bound) → List·Memᴰ b (start-bounds (routes-of p)) → List·Memᴰ b (bounds p)
 unfolding bounds
 start-there p b m = Memᴰ·append-left _ m
 
+-- travel bounds are
 pub travel-there : (p : Plan) (b : Bound) → List·Memᴰ b (travel-bounds (p .roads) (routes-of p)) → List·Memᴰ b (bounds p)
 unfolding bounds
 travel-there p b m = Memᴰ·append-right (start-bounds (routes-of p)) (Memᴰ·append-left _ m)
 
+-- order bounds are
 pub order-there : (p : Plan) (b : Bound) → List·Memᴰ b (order-bounds (routes-of p)) → List·Memᴰ b (bounds p)
 unfolding bounds
 order-there p b m =
     Memᴰ·append-right (start-bounds (routes-of p)) (Memᴰ·append-right (travel-bounds (p .roads) (routes-of p)) (Memᴰ·append-left _ m))
 
+-- finish bounds are
 pub finish-there : (p : Plan) (b : Bound) → List·Memᴰ b (finish-bounds (finish-event p) (routes-of p)) → List·Memᴰ b (bounds p)
 unfolding bounds
 finish-there p b m =
     Memᴰ·append-right (start-bounds (routes-of p))
     (Memᴰ·append-right (travel-bounds (p .roads) (routes-of p)) (Memᴰ·append-right (order-bounds (routes-of p)) m))
 
+-- each route's is among the start bounds
 pub start-in : (rs : List Route) (r : Route) → List·Memᴰ r rs → List·Memᴰ (start-bound r) (start-bounds rs)
 unfolding start-bounds
 start-in rs r m = Memᴰ·map (λ (r : Route). start-bound r) m
 
+-- each route's are among the travel bounds
 pub travel-in : (roads : List Road) (rs : List Route) (r : Route) (b : Bound) → List·Memᴰ r rs → List·Memᴰ b (along roads r) → List·Memᴰ b (travel-bounds roads rs)
 unfolding travel-bounds
 travel-in roads rs r b m i = to-flat (λ (r : Route). along roads r) rs r b m i
 
+-- each route's is among the finish bounds
 pub finish-in : (f : ℕ) (rs : List Route) (r : Route) → List·Memᴰ r rs → List·Memᴰ (no-earlier (last-event r) f) (finish-bounds f rs)
 unfolding finish-bounds
 finish-in f rs r m = Memᴰ·map (λ (r : Route). no-earlier (last-event r) f) m

@@ -4,9 +4,9 @@ use native.Mathlib.Nat.{eq-or-lt-of-le}
 use native.Mathlib.Omega.{arith}
 use mathlib.Core.Path.{_≡_, refl, ap, sym, _∙_, subst}
 use mathlib.Core.Logic.{_≢_, _⊎_, inl, inr, ⊎-elim}
-use mathlib.Core.Bool.{Bool, true, false, _&&_, cond}
+use mathlib.Core.Bool.{Bool, true, false, cond}
 use mathlib.Core.List.{List, [], _∷_, List·Memᴰ, List·Memᴰ·head, List·Memᴰ·tail, List·Memᴰ·not-nil, List·Memᴰ·cases-cons}
-use mathlib.Core.Option.{Option, none, some}
+use mathlib.Core.Option.{some}
 use lib.Dec.{T, eqb, eqb→eq, eqb-refl}
 use lib.ListN.{length, getD}
 use Rattle.floor.specs.Plan.{Plan}
@@ -26,6 +26,7 @@ abbrev pub Rises : {A : Type 0} → (A → ℕ) → A → List A → Type 0
 Rises f x [] = Unit {0}
 Rises f x (y ∷ ys) = (f x < f y) × Rises f y ys
 
+-- a list of which this is so from its first on
 abbrev pub Rising : {A : Type 0} → (A → ℕ) → List A → Type 0
 Rising f [] = Unit {0}
 Rising f (x ∷ xs) = Rises f x xs
@@ -36,6 +37,7 @@ rises-first f x [] i d h l = absurd (omega arith)
 rises-first f x (y ∷ ys) zero d h l = h .0
 rises-first f x (y ∷ ys) (suc i) d h l = omega (arith, h .0, rises-first f y ys i d (h .1) (omega arith))
 
+-- of two places, what stands at the later has the greater number
 rises-apart : {A : Type 0} (f : A → ℕ) (x : A) (xs : List A) (i j : ℕ) (d : A) → Rises f x xs → i < j → j < length (x ∷ xs)
     → f (getD (x ∷ xs) i d) < f (getD (x ∷ xs) j d)
 rises-apart f x xs i zero d h l k = absurd (omega arith)
@@ -75,6 +77,7 @@ visits-after-rise (d ∷ ds) c t x l = by (eqb c d) (λ v h. visits-after-rise d
     by true rest = rest x (omega arith)
     by false rest = (l, rest (record { step = t; cell = d }) (omega arith))
 
+-- from step 0 on
 pub visits-rise : (q : List ℕ) → Rising step-of (visits-of q)
 unfolding visits-of
 visits-rise [] = tt
@@ -85,6 +88,7 @@ abbrev pub Changes : Visit → List Visit → Type 0
 Changes x [] = Unit {0}
 Changes x (y ∷ ys) = (x .cell ≢ y .cell) × Changes y ys
 
+-- a visit is only there where the cell is another
 visits-after-change : (ds : List ℕ) (c t : ℕ) (x : Visit) → x .cell ≡ c → Changes x (visits-after c t ds)
 unfolding visits-after
 visits-after-change [] c t x e = tt
@@ -95,11 +99,13 @@ visits-after-change (d ∷ ds) c t x e = by (eqb c d) refl (λ v h. visits-after
     by true q rest = rest x (e ∙ eqb→eq c d (subst T (sym q) tt))
     by false q rest = (λ r. eqb-no c d q (sym e ∙ r), rest (record { step = t; cell = d }) refl)
 
+-- of two successive places
 changes-at : (x : Visit) (xs : List Visit) (i : ℕ) (d : Visit) → Changes x xs → i < length xs → getD (x ∷ xs) i d .cell ≢ getD xs i d .cell
 changes-at x [] i d h l = absurd (omega arith)
 changes-at x (y ∷ ys) zero d h l = h .0
 changes-at x (y ∷ ys) (suc i) d h l = changes-at y ys i d (h .1) (omega arith)
 
+-- of the visits of a path
 pub visits-change : (q : List ℕ) (i : ℕ) (d : Visit) → suc i < length (visits-of q) → getD (visits-of q) i d .cell ≢ getD (visits-of q) (suc i) d .cell
 unfolding visits-of
 visits-change [] i d l = absurd (omega arith)
@@ -129,6 +135,7 @@ visits-after-held (d ∷ ds) c t v m = by (eqb c d) m (visits-after-held ds d (s
         (λ n. further (rest n))
         (List·Memᴰ·cases-cons m)
 
+-- at each visit's step, which is one of the path's
 pub visit-held : (q : List ℕ) (v : Visit) → List·Memᴰ v (visits-of q) → (v .step < length q) × (at-step (v .step) q ≡ v .cell)
 unfolding visits-of at-step
 visit-held [] v m = absurd (List·Memᴰ·not-nil m)
@@ -189,6 +196,7 @@ final-stays (d ∷ ds) c t x e k l h = by (eqb c d) refl k l h (λ v g. final-st
     by false q k l h rest =
         let v : Visit = record { step = t; cell = d } in at v refl k l h (rest v refl)
 
+-- so of the visit at the last place
 pub last-stays : (q : List ℕ) (i : ℕ) (d : Visit) → suc i ≡ length (visits-of q) → (s : ℕ) → getD (visits-of q) i d .step ≤ s → s < length q
     → at-step s q ≡ getD (visits-of q) i d .cell
 unfolding visits-of at-step
@@ -224,6 +232,7 @@ eqb-same t = by (eqb t t) (eqb-refl t)
     by true h = refl
     by false h = absurd h
 
+-- the leave point of the i-th of x and xs: points of earlier visits have other steps
 leave-at : (x : Visit) (xs : List Visit) (e i : ℕ) (d : Visit) → Rises step-of x xs → i < length xs
     → find-point leave (getD (x ∷ xs) i d .step) e (points-after x xs) ≡ some (e + 3 * i)
 unfolding find-point points-after same-kind point
@@ -234,6 +243,7 @@ leave-at x (y ∷ ys) e (suc i) d h l =
     rw (eqb-later (getD (y ∷ ys) i d .step) (x .step) later)
     (leave-at y ys (suc (suc (suc e))) i d (h .1) (omega arith) ∙ ap some (omega arith))
 
+-- the approach point of the i-th of xs
 approach-at : (x : Visit) (xs : List Visit) (e i : ℕ) (d : Visit) → Rises step-of x xs → i < length xs
     → find-point approach (getD xs i d .step) e (points-after x xs) ≡ some (e + (3 * i + 1))
 unfolding find-point points-after same-kind point
@@ -244,6 +254,7 @@ approach-at x (y ∷ ys) e (suc i) d h l =
     rw (eqb-later (getD ys i d .step) (y .step) later)
     (approach-at y ys (suc (suc (suc e))) i d (h .1) (omega arith) ∙ ap some (omega arith))
 
+-- the entry of the i-th of xs
 entry-at : (x : Visit) (xs : List Visit) (e i : ℕ) (d : Visit) → Rises step-of x xs → i < length xs
     → find-point entry (getD xs i d .step) e (points-after x xs) ≡ some (e + (3 * i + 2))
 unfolding find-point points-after same-kind point
@@ -377,11 +388,13 @@ approach-there p k m y n l =
 
 -- ---- the points of a route go up
 
+-- entry, leave, approach, entry: each is above the one before
 points-after-rise : (x : Visit) (ys : List Visit) → Rises step-of x ys → Rises point-level (point entry x) (points-after x ys)
 unfolding points-after point point-level kind-level
 points-after-rise x [] h = tt
 points-after-rise x (y ∷ ys) h = (omega arith, (omega (arith, h .0), (omega arith, points-after-rise y ys (h .1))))
 
+-- of all points of a route
 pub points-rise : (vs : List Visit) → Rising step-of vs → Rising point-level (points vs)
 unfolding points
 points-rise [] h = tt
