@@ -6,6 +6,7 @@ use mathlib.Core.List.{List, [], _∷_, _++_}
 use mathlib.Core.Option.{Option, none, some}
 use lib.Dec.{T, leb, leb→le, le→leb}
 use lib.ListN.{length}
+use Rattle.laws.proofs.Tests.{passes}
 use Rattle.floor.specs.Refusal.{Judged, refused, accepted}
 use Rattle.floor.specs.Plan.{Plan}
 use Rattle.floor.specs.Tables.{Tables}
@@ -15,7 +16,7 @@ use Rattle.hegtalim.specs.declared.Loaded.{Loaded}
 use Rattle.hegtalim.specs.declared.Reported.{Reported}
 use Rattle.hegtalim.specs.PlanSlice.{plan-need, plan-slice, Held, held}
 use Rattle.hegtalim.specs.Outcomes.{Load, load-judged, load, Reporting, book-answer, report-held, report}
-use Rattle.hegtalim.proofs.Slice.{passes, held-slice, slice-length}
+use Rattle.hegtalim.proofs.Slice.{held-slice, slice-length}
 
 -- ---- load
 

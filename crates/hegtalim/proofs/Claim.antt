@@ -65,8 +65,7 @@ module _ (ts : Tables) (p : Plan) where
       → (report s r .answer ≡ book-answer p b r) × Standing ts p (report s r .plan) (book-after p b r)
   unfolding book-after
   after-report s b r h =
-      let e = ap (λ (x : List ℕ). report x r) (h .is) ∙ report-slice (h .places) ts p (h .log) b r (h .enough) (h .of-tables) (h .replayed) in
-      (
+      let e = ap (λ (x : List ℕ). report x r) (h .is) ∙ report-slice (h .places) ts p (h .log) b r (h .enough) (h .of-tables) (h .replayed) in (
         ap (λ (x : Reporting). x .answer) e,
         by (acceptable p b r) refl (ap (λ (x : Reporting). x .plan) e),
       )
@@ -114,20 +113,18 @@ module _ (ts : Tables) (p : Plan) where
   -- an answer that is neither
   neither : (s : List ℕ) (l : Lent) (a : Timed) → meets-needs s l ≡ true → is-no-plan a ≡ false → is-too-short a ≡ false → RightTimed l a
   unfolding is-no-plan is-too-short
-  neither s l a e f g =
-      (
-        λ q. subst T (sym (ap is-no-plan q) ∙ f) tt,
-        (λ q. absurd (subst T (sym (ap is-too-short q) ∙ g) tt), λ k. absurd (k (own-long s l e))),
-      )
+  neither s l a e f g = (
+    λ q. subst T (sym (ap is-no-plan q) ∙ f) tt,
+    (λ q. absurd (subst T (sym (ap is-too-short q) ∙ g) tt), λ k. absurd (k (own-long s l e))),
+  )
 
   -- a timetable is no 10, and a 14 exactly for its own slices
   after-timetable : (s : List ℕ) (b : Book) (l l′ : Lent) (a : Timed) → Standing ts p s b → Timetabled s l a l′ → RightTimed l a
   unfolding is-no-plan is-too-short
-  after-timetable s b l l′ a h (too-short e) =
-      (
-        λ q. subst T (sym (ap is-no-plan q)) tt,
-        (λ q k. subst T e (needs-met s b l h k), λ k. refl),
-      )
+  after-timetable s b l l′ a h (too-short e) = (
+    λ q. subst T (sym (ap is-no-plan q)) tt,
+    (λ q k. subst T e (needs-met s b l h k), λ k. refl),
+  )
   after-timetable s b l l′ a h (no-plan e f) = absurd (Option·none-ne-some _ (sym f ∙ holds-plan s b h))
   after-timetable s b l l′ a h (timed e k f t g) = neither s l (Timed.Times (t .passes)) e refl refl
   after-timetable s b l l′ a h (no-times e k f g is c) = neither s l (Timed.NoTimes (length is)) e refl refl
@@ -234,8 +231,7 @@ answered s l = by (meets-needs s l) refl (held s) refl
     held-out h e f none g =
         let (n, j, r, q) = held-says s h f in
         let k : Logged (h .plan) (h .book) = record { tables = h .tables; of-tables = j; log = h .log; replayed = r } in
-        let c : ChainWithin (h .plan) (h .book) (event-count (h .plan)) = no-timetable-chain (h .plan) (h .book) k g in
-        (
+        let c : ChainWithin (h .plan) (h .book) (event-count (h .plan)) = no-timetable-chain (h .plan) (h .book) k g in (
           Timed.NoTimes (length (c .items)),
           chain-written (c .items) l,
           no-times e h f g (c .items) (c .chain),

@@ -8,6 +8,7 @@ use mathlib.Core.Option.{Option, none, some, Option·none-ne-some, Option·some-
 use lib.Dec.{T, eqb, eqb→eq}
 use lib.ListN.{length, take, drop, replicate, length-append, length-replicate, length-map}
 use lib.Seq.{take-at, drop-at, drop-drop}
+use Rattle.laws.proofs.Tests.{passes}
 use Rattle.words.specs.Words.{little, word, words}
 use Rattle.words.proofs.Reading.{word-length, words-length, little-word}
 use Rattle.csv.specs.Text.{same}
@@ -282,11 +283,6 @@ module _ (n : ℕ) (ts : Tables) (log : List Report) where
         ∙ entries-back log _ (lf .times-short)
 
 -- ---- what a slice holds
-
--- a test that passes is true
-pub passes : (b : Bool) → T b → b ≡ true
-passes true t = refl
-passes false t = absurd t
 
 -- a plan slice holds its tables and log, and nothing else
 nothing-else-in : (n : ℕ) (ts : Tables) (log : List Report) → length (plan-slice n ts log) ≡ n → nothing-else (plan-slice n ts log) ts log ≡ true

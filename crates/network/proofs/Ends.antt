@@ -18,7 +18,8 @@ use Rattle.floor.proofs.Accepted.{Sound}
 use Rattle.network.specs.Events.{Visit, visits-of, Kind, approach, entry, leave, Point, points, points-after, Route, routes, routes-of, route-points, event-count, finish-event, places, route-events, last-event, same-kind, find-point, event-of}
 use Rattle.network.specs.Bounds.{Bound, no-earlier, part-lengths, Part, parts, parts-after, route-parts, part-bounds, bounds}
 use Rattle.network.specs.Judge.{judge}
-use Rattle.network.proofs.Members.{of-flat, places-append, places-within, in-places}
+use Rattle.laws.proofs.Members.{of-flat}
+use Rattle.network.proofs.Places.{places-append, places-within, in-places}
 use Rattle.network.proofs.Judged.{judged-sound}
 use Rattle.network.proofs.Sorts.{along, Sort, starts, travels, orders, finishes, sort-of, start-there, travel-there, finish-there, start-in, travel-in, finish-in}
 use Rattle.network.proofs.Routes.{Origin, origin, path-there, some-route, event-count-is}

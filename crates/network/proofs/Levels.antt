@@ -19,7 +19,7 @@ use Rattle.network.specs.Bounds.{Bound, no-earlier, first-later, bounds}
 use Rattle.network.specs.Judge.{judge}
 use Rattle.network.specs.Levels.{kind-level, point-level, level, level-of}
 use Rattle.network.proofs.Judged.{judged-sound}
-use Rattle.network.proofs.Members.{at-place}
+use Rattle.laws.proofs.Members.{at-place}
 use Rattle.network.proofs.Routes.{origin}
 use Rattle.network.proofs.Sorts.{Order, Sort, starts, travels, orders, finishes, sort-of}
 use Rattle.network.proofs.Ends.{route-within, some-point, event-found, along-ends}

@@ -12,14 +12,14 @@ use lib.Dec.{T, eqb, ltb, eqb→eq, lt→ltb, eqb-refl}
 use lib.Signed.{_≤ℤ_}
 use lib.ListN.{length, getD}
 use mir.Facts.{and-yes, yes-and}
-use Rattle.signed.proofs.Signed.{signed, difference}
+use Rattle.laws.proofs.Signed.{signed, difference}
 use Rattle.floor.specs.Plan.{Plan}
 use Rattle.floor.proofs.Accepted.{Sound}
 use Rattle.network.specs.Events.{Visit, approach, leave, Route, routes-of, route-points, event-of, finish-event}
 use Rattle.network.specs.Bounds.{Bound, no-earlier, start-bounds, travel-bounds, first-later, between, order-bound, order-bounds-to, order-bounds, finish-bounds, bounds}
 use Rattle.network.specs.Meaning.{Times, Meets, MeetsAll, InOrder, KeepsOrder, Demand-2}
 use Rattle.network.proofs.Judged.{judged-sound}
-use Rattle.network.proofs.Members.{to-flat, place-of}
+use Rattle.laws.proofs.Members.{to-flat, place-of}
 use Rattle.network.proofs.Sorts.{Sort, starts, travels, orders, finishes, sort-of, start-there, travel-there, order-there, finish-there, start-in, travel-in, finish-in}
 use Rattle.network.proofs.Ends.{along-at, event-found}
 use Rattle.network.proofs.Visits.{step-of, rising-apart, route-rises, leave-there, approach-there, later-larger}

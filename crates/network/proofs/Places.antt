@@ -1,13 +1,44 @@
--- An event's number is its place in the list of events: that of a cart's i-th point is the cart's first plus i. Assumes nothing.
-use Prim.Native.Nat.{ℕ, suc, _+_, _<_}
+-- The numbers of things in a row; and an event's number is its place in the list of events: that of a cart's i-th point is the cart's first plus i.
+-- Assumes nothing.
+use Prim.Native.Nat.{ℕ, suc, _+_, _≤_, _<_}
+use native.Mathlib.Nat.{eq-or-lt-of-le}
 use native.Mathlib.Omega.{arith}
 use mathlib.Core.Path.{_≡_, refl, ap, sym, _∙_, subst}
 use mathlib.Core.Logic.{⊎-elim}
-use mathlib.Core.List.{List, [], _∷_, _++_, map, flatMap, append-assoc, List·Memᴰ, List·Memᴰ·not-nil, List·Memᴰ·cases-cons}
+use mathlib.Core.List.{List, [], _∷_, _++_, map, flatMap, append-assoc, List·Memᴰ, List·Memᴰ·head, List·Memᴰ·tail, List·Memᴰ·not-nil, List·Memᴰ·cases-cons}
 use lib.ListN.{length, getD, length-append, length-map, List·getD-append, List·getD-map}
 use lib.Seq.{getD-append-add, getD-append-seam}
 use Rattle.floor.specs.Plan.{Cart, Plan}
-use Rattle.network.specs.Events.{Point, Route, routes, routes-of, route-points, points, visits-of, Event, start, finish, passing, events, event-count, finish-event}
+use Rattle.network.specs.Events.{Point, Route, routes, routes-of, route-points, points, visits-of, Event, start, finish, passing, events, event-count, finish-event, places}
+
+-- ---- the numbers of things in a row
+
+-- of two rows, one behind the other
+pub places-append : {A : Type 0} (e : ℕ) (xs ys : List A) → places e (xs ++ ys) ≡ places e xs ++ places (e + length xs) ys
+unfolding places
+places-append e [] ys = ap (λ (n : ℕ). places n ys) (omega arith)
+places-append e (x ∷ xs) ys =
+    ap (λ (l : List ℕ). e ∷ l)
+    (places-append (suc e) xs ys ∙ ap (λ (n : ℕ). places (suc e) xs ++ places n ys) (omega arith))
+
+-- they go from the first on, one for each
+pub places-within : {A : Type 0} (e : ℕ) (xs : List A) (n : ℕ) → List·Memᴰ n (places e xs) → (e ≤ n) × (n < e + length xs)
+unfolding places
+places-within e [] n m = absurd (List·Memᴰ·not-nil m)
+places-within e (x ∷ xs) n m =
+    ⊎-elim
+    (λ q. (omega (arith, q), omega (arith, q)))
+    (λ t. let (l, h) = places-within (suc e) xs n t in (omega (arith, l), omega (arith, h)))
+    (List·Memᴰ·cases-cons m)
+
+-- and every number from the first on, as many as there are things, is one of them
+pub in-places : {A : Type 0} (e : ℕ) (xs : List A) (n : ℕ) → e ≤ n → n < e + length xs → List·Memᴰ n (places e xs)
+unfolding places
+in-places e [] n l h = absurd (omega arith)
+in-places e (x ∷ xs) n l h =
+    ⊎-elim (λ q. List·Memᴰ·head (sym q)) (λ k. List·Memᴰ·tail (in-places (suc e) xs n k (omega (arith, h)))) (eq-or-lt-of-le l)
+
+-- ---- events
 
 -- the events of a route
 abbrev of-route : Route → List Event

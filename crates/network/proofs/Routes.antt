@@ -8,7 +8,7 @@ use mathlib.Core.List.{List, [], _∷_, map, flatMap, List·Memᴰ, List·Memᴰ
 use lib.ListN.{length, getD, length-append, length-map}
 use Rattle.floor.specs.Plan.{Cart, Plan}
 use Rattle.network.specs.Events.{visits-of, points, Route, routes, routes-of, route-points, finish, passing, events, event-count}
-use Rattle.network.proofs.Members.{at-place}
+use Rattle.laws.proofs.Members.{at-place}
 
 -- where a route comes from, among those of carts from number j on whose events are numbered from e on
 pub record From (j e : ℕ) (cs : List Cart) (ps : List (List ℕ)) (r : Route) : Type 0 where

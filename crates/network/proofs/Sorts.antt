@@ -9,7 +9,7 @@ use lib.Dec.{T, eqb, eqb-refl}
 use Rattle.floor.specs.Plan.{Road, Plan}
 use Rattle.network.specs.Events.{Visit, approach, leave, Route, routes-of, event-of, last-event, finish-event}
 use Rattle.network.specs.Bounds.{Bound, no-earlier, start-bounds, route-parts, part-bounds, travel-bounds, first-later, between, order-bound, order-bounds-to, order-bounds, finish-bounds, bounds}
-use Rattle.network.proofs.Members.{to-flat, of-flat}
+use Rattle.laws.proofs.Members.{to-flat, of-flat}
 
 -- a start bound
 abbrev pub start-bound : Route → Bound

@@ -7,14 +7,15 @@ use mathlib.Core.Logic.{_≢_, _⊎_, inl, inr, ⊎-elim}
 use mathlib.Core.Bool.{Bool, true, false, cond}
 use mathlib.Core.List.{List, [], _∷_, List·Memᴰ, List·Memᴰ·head, List·Memᴰ·tail, List·Memᴰ·not-nil, List·Memᴰ·cases-cons}
 use mathlib.Core.Option.{some}
-use lib.Dec.{T, eqb, eqb→eq, eqb-refl}
+use lib.Dec.{T, eqb, eqb→eq}
 use lib.ListN.{length, getD}
 use Rattle.floor.specs.Plan.{Plan}
 use Rattle.floor.specs.Paths.{at-step, steps}
 use Rattle.floor.proofs.Accepted.{Sound}
 use Rattle.network.specs.Events.{Visit, visits-after, visits-of, Kind, approach, entry, leave, Point, point, points-after, points, Route, routes-of, route-points, same-kind, find-point, event-of}
 use Rattle.network.specs.Levels.{kind-level, point-level}
-use Rattle.network.proofs.Members.{place-of, below-or-not}
+use Rattle.laws.proofs.Members.{place-of}
+use Rattle.laws.proofs.Tests.{equal-passes, unequal-fails, below-or-not}
 use Rattle.network.proofs.Sorts.{eqb-no}
 use Rattle.network.proofs.Routes.{Origin, origin, path-there}
 use Rattle.network.proofs.Ends.{event-found}
@@ -218,26 +219,14 @@ last-stays (c ∷ cs) i d e s h l =
 
 -- a test that fails is passed over
 eqb-later : (t s : ℕ) → s < t → eqb t s ≡ false
-eqb-later t s l = by (eqb t s) refl
-  where
-    by : (b : Bool) → eqb t s ≡ b → b ≡ false
-    by true e = absurd (omega (arith, eqb→eq t s (subst T (sym e) tt), l))
-    by false e = refl
-
--- one that compares a number with itself is passed
-eqb-same : (t : ℕ) → eqb t t ≡ true
-eqb-same t = by (eqb t t) (eqb-refl t)
-  where
-    by : (b : Bool) → T b → b ≡ true
-    by true h = refl
-    by false h = absurd h
+eqb-later t s l = unequal-fails t s (λ (e : t ≡ s). omega (arith, e, l))
 
 -- the leave point of the i-th of x and xs: points of earlier visits have other steps
 leave-at : (x : Visit) (xs : List Visit) (e i : ℕ) (d : Visit) → Rises step-of x xs → i < length xs
     → find-point leave (getD (x ∷ xs) i d .step) e (points-after x xs) ≡ some (e + 3 * i)
 unfolding find-point points-after same-kind point
 leave-at x [] e i d h l = absurd (omega arith)
-leave-at x (y ∷ ys) e zero d h l = rw (eqb-same (x .step)) (ap some (omega arith))
+leave-at x (y ∷ ys) e zero d h l = rw (equal-passes (x .step) (x .step) refl) (ap some (omega arith))
 leave-at x (y ∷ ys) e (suc i) d h l =
     let later : x .step < getD (y ∷ ys) i d .step = rises-first step-of x (y ∷ ys) i d h (omega arith) in
     rw (eqb-later (getD (y ∷ ys) i d .step) (x .step) later)
@@ -248,7 +237,7 @@ approach-at : (x : Visit) (xs : List Visit) (e i : ℕ) (d : Visit) → Rises st
     → find-point approach (getD xs i d .step) e (points-after x xs) ≡ some (e + (3 * i + 1))
 unfolding find-point points-after same-kind point
 approach-at x [] e i d h l = absurd (omega arith)
-approach-at x (y ∷ ys) e zero d h l = rw (eqb-same (y .step)) (ap some (omega arith))
+approach-at x (y ∷ ys) e zero d h l = rw (equal-passes (y .step) (y .step) refl) (ap some (omega arith))
 approach-at x (y ∷ ys) e (suc i) d h l =
     let later : y .step < getD ys i d .step = rises-first step-of y ys i d (h .1) (omega arith) in
     rw (eqb-later (getD ys i d .step) (y .step) later)
@@ -259,7 +248,7 @@ entry-at : (x : Visit) (xs : List Visit) (e i : ℕ) (d : Visit) → Rises step-
     → find-point entry (getD xs i d .step) e (points-after x xs) ≡ some (e + (3 * i + 2))
 unfolding find-point points-after same-kind point
 entry-at x [] e i d h l = absurd (omega arith)
-entry-at x (y ∷ ys) e zero d h l = rw (eqb-same (y .step)) (ap some (omega arith))
+entry-at x (y ∷ ys) e zero d h l = rw (equal-passes (y .step) (y .step) refl) (ap some (omega arith))
 entry-at x (y ∷ ys) e (suc i) d h l =
     let later : y .step < getD ys i d .step = rises-first step-of y ys i d (h .1) (omega arith) in
     rw (eqb-later (getD ys i d .step) (y .step) later)
@@ -304,7 +293,7 @@ entry-of r h i d l = by (r .visits) h i l
   where
     by : (vs : List Visit) → Rising step-of vs → (i : ℕ) → i < length vs → find-point entry (getD vs i d .step) (r .first) (points vs) ≡ some (r .first + 3 * i)
     by [] h i l = absurd (omega arith)
-    by (x ∷ xs) h zero l = rw (eqb-same (x .step)) (ap some (omega arith))
+    by (x ∷ xs) h zero l = rw (equal-passes (x .step) (x .step) refl) (ap some (omega arith))
     by (x ∷ xs) h (suc i) l =
         rw (eqb-later (getD xs i d .step) (x .step) (rises-first step-of x xs i d h (omega arith)))
         (entry-at x xs (suc (r .first)) i d h (omega arith) ∙ ap some (omega arith))

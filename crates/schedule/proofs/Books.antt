@@ -2,17 +2,15 @@
 -- after the clock. Assumes nothing.
 use Prim.Native.Nat.{ℕ, zero, suc, _-_, _≤_, _<_}
 use native.Mathlib.Omega.{arith}
-use mathlib.Core.Path.{_≡_, refl, ap, sym, subst}
+use mathlib.Core.Path.{_≡_, refl, ap, subst}
 use mathlib.Core.Logic.{⊎-elim}
-use mathlib.Core.Bool.{Bool, true, false}
 use mathlib.Core.List.{List, [], _∷_, _++_, map, List·Memᴰ, List·Memᴰ·head, List·Memᴰ·tail, List·Memᴰ·not-nil, List·Memᴰ·append-cases, List·Memᴰ·eq-of-singleton, Memᴰ·append-left, Memᴰ·append-right}
-use mathlib.Core.Option.{none, some, Option·none-ne-some, Option·some-injective}
-use lib.Dec.{T, leb, ltb, leb→le, ltb→lt}
+use mathlib.Core.Option.{some, Option·some-injective}
 use lib.ListN.{length, getD, set, length-append}
-use mir.Facts.{and-yes}
 use Rattle.floor.specs.Plan.{Plan}
 use Rattle.network.specs.Events.{Route, routes-of, route-points}
-use Rattle.schedule.specs.Book.{Report, Book, first-book, is-there, points-of, passed-by, has-next, in-time, acceptable, pass-next, replay, by-cart}
+use Rattle.schedule.proofs.Log.{Accepted, acceptable-says, replay-first}
+use Rattle.schedule.specs.Book.{Report, Book, first-book, points-of, passed-by, pass-next, replay, by-cart}
 
 -- the times of the points that the cart of a route has passed by the clock
 pub record Kept (clock : ℕ) (r : Route) (ts : List ℕ) : Type 0 where
@@ -79,29 +77,18 @@ pass-kept i l no-cart w = absurd (omega arith)
 pass-kept zero l (one-more k ks) w = one-more (passes l w k) (all-later l ks)
 pass-kept (suc i) l (one-more k ks) w = one-more (later-clock l k) (pass-kept i l ks w)
 
-next-kept : (p : Plan) (b : Book) (r : Report) → T (acceptable p b r) → KeptBook p b → KeptBook p (pass-next b r)
-unfolding acceptable has-next in-time points-of passed-by pass-next
-next-kept p b r t k =
-    let (n, i) = and-yes (has-next p b r) (in-time b r) t in
-    let (c, h) = and-yes (is-there p (r .cart)) (ltb (length (passed-by b (r .cart))) (points-of p (r .cart))) n in
-    let (e, l) = and-yes (leb (b .clock) (r .time)) (leb (r .time) 1_000_000_000_000) i in
-    record {
-      carts = pass-kept (r .cart - 1) (leb→le (b .clock) (r .time) e) (k .carts) (ltb→lt (length (passed-by b (r .cart))) (points-of p (r .cart)) h);
-      in-range = leb→le (r .time) 1_000_000_000_000 l;
-    }
+next-kept : (p : Plan) (b : Book) (r : Report) → Accepted p b r → KeptBook p b → KeptBook p (pass-next b r)
+unfolding points-of passed-by pass-next
+next-kept p b r a k = record { carts = pass-kept (r .cart - 1) (a .clock) (k .carts) (a .point); in-range = a .limit }
 
 -- ---- a whole log
 
-pub replay-kept : (p : Plan) (b : Book) (log : List Report) (c : Book) → KeptBook p b → replay p b log ≡ some c → KeptBook p c
+replay-kept : (p : Plan) (b : Book) (log : List Report) (c : Book) → KeptBook p b → replay p b log ≡ some c → KeptBook p c
 unfolding replay
 replay-kept p b [] c k e = subst (KeptBook p) (Option·some-injective _ _ e) k
-replay-kept p b (r ∷ rs) c k e = by (acceptable p b r) refl (replay-kept p (pass-next b r) rs c) e
-  where
-    by : (t : Bool) → acceptable p b r ≡ t → (KeptBook p (pass-next b r) → replay p (pass-next b r) rs ≡ some c → KeptBook p c)
-        → elim t [ true ↦ replay p (pass-next b r) rs | false ↦ none ] ≡ some c
-        → KeptBook p c
-    by true q more f = more (next-kept p b r (subst T (sym q) tt) k) f
-    by false q more f = absurd (Option·none-ne-some _ f)
+replay-kept p b (r ∷ rs) c k e =
+    let (q, f) = replay-first p b c r rs e in
+    replay-kept p (pass-next b r) rs c (next-kept p b r (acceptable-says p b r q) k) f
 
 -- every book that a log gives
 pub book-kept : (p : Plan) (log : List Report) (b : Book) → HasPoints (routes-of p) → replay p (first-book p) log ≡ some b → KeptBook p b

@@ -3,8 +3,8 @@ use Prim.Native.Nat.{ℕ, zero, suc, _≤_, _<_}
 use native.Mathlib.Decide.{decLt}
 use native.Mathlib.Omega.{arith}
 use mathlib.Core.Path.{_≡_, refl, sym, subst}
-use mathlib.Core.Logic.{_≢_, by-cases}
-use mathlib.Core.Bool.{Bool, true, false, _&&_, _||_, not}
+use mathlib.Core.Logic.{inl, inr, _≢_, by-cases}
+use mathlib.Core.Bool.{_&&_, not}
 use mathlib.Core.List.{List, [], _∷_, map, List·Memᴰ, List·Memᴰ·head, List·Memᴰ·tail}
 use mathlib.Core.Option.{Option, none, some, Option·none-ne-some, Option·some-injective}
 use lib.Dec.{T, T-not, eqb, eqb-refl}
@@ -12,6 +12,7 @@ use lib.ListN.{length, getD}
 use lib.Signed.{ltZ}
 use lib.IntN.{pos}
 use mir.Facts.{and-yes}
+use Rattle.laws.proofs.Tests.{yes-or}
 use Rattle.floor.specs.Plan.{Plan}
 use Rattle.network.specs.Events.{event-count}
 use Rattle.network.specs.Bounds.{Bound}
@@ -30,16 +31,8 @@ begun ls i = getD (map (λ (l : Leg). l .begins) ls) i 0
 begins-there : (ls : List Leg) (i : ℕ) → i < length ls → T (begins-at (begun ls i) ls)
 unfolding begins-at
 begins-there [] i h = absurd (omega arith)
-begins-there (l ∷ ls) zero h = either (eqb (l .begins) (l .begins)) (begins-at (l .begins) ls) (eqb-refl (l .begins))
-  where
-    either : (a c : Bool) → T a → T (a || c)
-    either true c t = tt
-    either false c t = absurd t
-begins-there (l ∷ ls) (suc i) h = or-else (eqb (begun ls i) (l .begins)) (begins-at (begun ls i) ls) (begins-there ls i (omega arith))
-  where
-    or-else : (a c : Bool) → T c → T (a || c)
-    or-else true c t = tt
-    or-else false c t = t
+begins-there (l ∷ ls) zero h = yes-or (eqb (l .begins) (l .begins)) (begins-at (l .begins) ls) (inl (eqb-refl (l .begins)))
+begins-there (l ∷ ls) (suc i) h = yes-or (eqb (begun ls i) (l .begins)) (begins-at (begun ls i) ls) (inr (begins-there ls i (omega arith)))
 
 -- two legs of a list that meets no event twice begin at different events
 begins-apart : (ls : List Leg) → T (no-event-twice ls) → (i j : ℕ) → i < j → j < length ls → begun ls i ≢ begun ls j

@@ -5,13 +5,13 @@ use mathlib.Core.Logic.{⊎-elim}
 use mathlib.Core.Bool.{Bool, true, false, _&&_, _||_, not, cond}
 use mathlib.Core.List.{List, [], _∷_, map, List·Memᴰ, List·Memᴰ·head, List·Memᴰ·tail, List·Memᴰ·not-nil, List·Memᴰ·cases-cons, List·Memᴰ·append-cases, List·Memᴰ·eq-of-singleton, Memᴰ·append-left, Memᴰ·append-right, Memᴰ·of-map}
 use mathlib.Core.Option.{Option, none, some, Option·none-ne-some, Option·some-injective}
-use lib.Dec.{T, eqb, eqb→eq, eqb-refl}
+use lib.Dec.{T, not-T, eqb, eqb→eq, eqb-refl}
 use lib.IntN.{ℤ, pos, negℤ, negℤ-negℤ, _+ℤ_}
 use lib.Signed.{ltZ, ltZ-yes, _≤ℤ_, _<ℤ_}
 use lib.ListN.{length}
 use mir.Facts.{and-yes, yes-and}
-use Rattle.signed.proofs.Signed.{signed, sum, difference, neg-up, neg-dn}
-use Rattle.lists.proofs.Members.{of-flat}
+use Rattle.laws.proofs.Signed.{signed, sum, difference, neg-up, neg-dn}
+use Rattle.laws.proofs.Members.{of-flat}
 use Rattle.floor.specs.Plan.{Plan}
 use Rattle.network.specs.Bounds.{Bound, bounds}
 use Rattle.network.specs.Meaning.{Times, Meets}
@@ -38,13 +38,12 @@ way-leg c a m = ⊎-elim (λ (e : a ≡ forward c). (back, ap (λ (x : Arc). som
   where
     by : (hi : Option ℕ) → c .hi ≡ hi → List·Memᴰ a (backward c hi) → (d : Direction) × (leg c d ≡ some (mirror a))
     by none q h = absurd (List·Memᴰ·not-nil h)
-    by (some x) q h =
-        (
-          onward,
-          ap (onward-leg c) q
+    by (some x) q h = (
+      onward,
+      ap (onward-leg c) q
           ∙ ap (λ (z : ℤ). some (record { begins = c .from; ends = c .to; costs = z })) (sym (negℤ-negℤ (pos x)))
           ∙ ap (λ (y : Arc). some (mirror y)) (sym (List·Memᴰ·eq-of-singleton h)),
-        )
+    )
 
 -- ---- from a cycle to a chain
 
@@ -95,16 +94,12 @@ begins-member e (a ∷ as′) t = by (eqb e (a .to)) refl t (begins-member e as�
     by true q t more = (a, List·Memᴰ·head refl, sym (eqb→eq e (a .to) (subst T (sym q) tt)))
     by false q t more = let (x, m, h) = more t in (x, List·Memᴰ·tail m, h)
 
-not-yes : (c : Bool) → (T c → ⊥) → T (not c)
-not-yes true h = absurd (h tt)
-not-yes false h = tt
-
 none-twice : (as′ : List Arc) → NoneTwice as′ → T (no-event-twice (map mirror as′))
 unfolding no-event-twice
 none-twice [] h = tt
 none-twice (a ∷ as′) (h, more) =
     yes-and (not (begins-at (a .to) (map mirror as′))) (no-event-twice (map mirror as′))
-    (not-yes (begins-at (a .to) (map mirror as′)) (λ t. let (x, m, e) = begins-member (a .to) as′ t in h x m e))
+    (not-T (begins-at (a .to) (map mirror as′)) (λ t. let (x, m, e) = begins-member (a .to) as′ t in h x m e))
     (none-twice as′ more)
 
 -- what a cycle gains, its chain costs less than nothing

@@ -9,8 +9,8 @@ use mathlib.Core.Option.{Option, none, some, Option·none-ne-some, Option·some-
 use lib.IntN.{ℤ, pos, _+ℤ_}
 use lib.Signed.{_≤ℤ_}
 use lib.ListN.{length}
-use Rattle.signed.proofs.Signed.{signed, sum, neg-up, neg-dn, Within}
-use Rattle.lists.proofs.Members.{to-flat, of-flat, of-drop}
+use Rattle.laws.proofs.Signed.{signed, sum, neg-up, neg-dn, Within}
+use Rattle.laws.proofs.Members.{to-flat, of-flat, of-drop}
 use Rattle.floor.specs.Refusal.{accepted}
 use Rattle.floor.specs.Plan.{Plan}
 use Rattle.floor.specs.Tables.{Tables}

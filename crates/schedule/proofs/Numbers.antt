@@ -3,10 +3,10 @@ use Prim.Native.Nat.{ℕ, suc, _+_, _≤_}
 use native.Mathlib.Omega.{arith}
 use mathlib.Core.Path.{_≡_, refl, ap, sym, _∙_, subst}
 use mathlib.Core.Logic.{⊎-elim}
-use mathlib.Core.Bool.{Bool, true, false, cond}
+use mathlib.Core.Bool.{Bool, cond}
 use mathlib.Core.List.{List, [], _∷_, _++_, map, tail, List·Memᴰ, List·Memᴰ·not-nil, List·Memᴰ·cases-cons, List·Memᴰ·append-cases, Memᴰ·map}
-use lib.Dec.{T, eqb, eqb→eq, eqb-refl}
 use lib.ListN.{length, drop}
+use Rattle.laws.proofs.Tests.{equal-passes, unequal-fails}
 use Rattle.floor.specs.Plan.{Cart, Plan}
 use Rattle.network.specs.Events.{Route, points, visits-of, routes, routes-of, route-points, route-events, places}
 use Rattle.network.specs.Bounds.{Bound, bounds}
@@ -17,29 +17,15 @@ use Rattle.schedule.proofs.Books.{Kept, AllKept, one-more, KeptBook}
 
 -- ---- looking a number up
 
-eqb-yes : (m n : ℕ) → m ≡ n → eqb m n ≡ true
-eqb-yes m n e = by (eqb m n) (subst (λ (x : ℕ). T (eqb m x)) e (eqb-refl m))
-  where
-    by : (b : Bool) → T b → b ≡ true
-    by true t = refl
-    by false t = absurd t
-
-eqb-no : (m n : ℕ) → ¬ (m ≡ n) → eqb m n ≡ false
-eqb-no m n h = by (eqb m n) refl
-  where
-    by : (b : Bool) → eqb m n ≡ b → b ≡ false
-    by true e = absurd (h (eqb→eq m n (subst T (sym e) tt)))
-    by false e = refl
-
 -- the first bound has the number
 found : (x : Numbered) (bs : List Numbered) (i : Item) → x .number ≡ i .number → leg-of (x ∷ bs) i ≡ leg (x .bound) (i .direction)
 unfolding leg-of
-found x bs i e = ap (λ (t : Bool). cond t (leg (x .bound) (i .direction)) (leg-of bs i)) (eqb-yes (x .number) (i .number) e)
+found x bs i e = ap (λ (t : Bool). cond t (leg (x .bound) (i .direction)) (leg-of bs i)) (equal-passes (x .number) (i .number) e)
 
 -- it has another
 passed-over : (x : Numbered) (bs : List Numbered) (i : Item) → ¬ (x .number ≡ i .number) → leg-of (x ∷ bs) i ≡ leg-of bs i
 unfolding leg-of
-passed-over x bs i h = ap (λ (t : Bool). cond t (leg (x .bound) (i .direction)) (leg-of bs i)) (eqb-no (x .number) (i .number) h)
+passed-over x bs i h = ap (λ (t : Bool). cond t (leg (x .bound) (i .direction)) (leg-of bs i)) (unequal-fails (x .number) (i .number) h)
 
 -- ---- the plan's own bounds
 
@@ -175,8 +161,7 @@ has-number p b kept few c m = ⊎-elim own added (List·Memᴰ·append-cases (bo
 
     added : List·Memᴰ c (added-bounds p b) → (k : ℕ) × Leads (numbered-bounds p b) c k
     added h =
-        let q = added-leads (added-bounds p b) 1 c (added-rise (p .carts) (p .paths) 1 1 (b .clock) (b .passed) (kept .carts)) h in
-        (
+        let q = added-leads (added-bounds p b) 1 c (added-rise (p .carts) (p .paths) 1 1 (b .clock) (b .passed) (kept .carts)) h in (
           10_000 + c .to,
           record {
             leads = λ d. past-own (bounds p) 0 (added-numbered (added-bounds p b)) (record { number = 10_000 + c .to; direction = d }) (omega (arith, few)) ∙ q .leads d;

@@ -6,12 +6,13 @@ use mathlib.Core.List.{List, [], _∷_, map, tail, List·Memᴰ, List·Memᴰ·h
 use mathlib.Core.Option.{Option, none, some, Option·none-ne-some, Option·some-injective}
 use lib.IntN.{pos, negℤ, _+ℤ_, _-ℤ_}
 use lib.Signed.{_≤ℤ_}
-use Rattle.signed.proofs.Signed.{signed, sum, difference, neg-up, neg-dn}
-use Rattle.lists.proofs.Members.{to-flat, of-flat, of-tail}
+use Rattle.laws.proofs.Signed.{signed, sum, difference, neg-up, neg-dn}
+use Rattle.laws.proofs.Members.{to-flat, of-flat, of-tail}
 use Rattle.floor.specs.Plan.{Plan}
 use Rattle.network.specs.Events.{Route, routes-of, Point, route-points, route-events, places}
-use Rattle.network.specs.Bounds.{Bound, start-bounds, bounds}
+use Rattle.network.specs.Bounds.{Bound, bounds}
 use Rattle.network.specs.Meaning.{Times, Meets}
+use Rattle.network.proofs.Ends.{first-bound}
 use Rattle.walks.specs.Walks.{Arc}
 use Rattle.walks.specs.Solutions.{Solves}
 use Rattle.schedule.specs.Book.{Book, Passed, passed-at, route-passed, route-to-pass, passed-points, points-to-pass}
@@ -85,11 +86,10 @@ reported-meets t x z = (there, back)
 -- that of a point still to be passed says that it is not before the clock
 pub clock-meets : (t : Times) (c e : ℕ) → t 0 ≡ pos 0 → Meets t (clock-bound c e) ↔ (pos c ≤ℤ t e)
 unfolding clock-bound
-clock-meets t c e z =
-    (
-      λ m. let l = m .lower in omega (signed, l, difference (t e) (t 0)),
-      λ l. record { lower = omega (signed, difference (t e) (t 0)); upper = λ h q. absurd (Option·none-ne-some _ q) },
-    )
+clock-meets t c e z = (
+  λ m. let l = m .lower in omega (signed, l, difference (t e) (t 0)),
+  λ l. record { lower = omega (signed, difference (t e) (t 0)); upper = λ h q. absurd (Option·none-ne-some _ q) },
+)
 
 module _ (p : Plan) (b : Book) (kept : KeptBook p b) where
   -- an added bound is that of a point reported or of a point still to be passed
@@ -137,10 +137,9 @@ module _ (p : Plan) (b : Book) (kept : KeptBook p b) where
 
   -- a first entry is at 0 by its start bound
   first-entry : (t : Times) → Solves (arcs p b) t → (r : Route) → List·Memᴰ r (routes-of p) → t (r .first) ≡ pos 0
-  unfolding all-bounds bounds start-bounds
+  unfolding all-bounds
   first-entry t s r m =
-      let c : Bound = record { from = 0; to = r .first; lo = 0; hi = some 0 } in
-      let k : Meets t c = solved-met t s c (Memᴰ·append-left (added-bounds p b) (Memᴰ·append-left _ (Memᴰ·map (λ (r : Route). record { from = 0; to = r .first; lo = 0; hi = some 0 }) m))) in
+      let k : Meets t (record { from = 0; to = r .first; lo = 0; hi = some 0 }) = solved-met t s _ (Memᴰ·append-left (added-bounds p b) (first-bound p r m)) in
       let l = k .lower in
       let u = k .upper 0 refl in
       let z = s .zeroed in
@@ -177,19 +176,18 @@ module _ (p : Plan) (b : Book) (kept : KeptBook p b) where
       let k : AtCart (b .clock) route-to-pass (routes-of p) (b .passed) e = at-cart route-to-pass e (kept .carts) m in
       clock-meets t (b .clock) e (s .zeroed) .0
       (solved-added t s (clock-bound (b .clock) e)
-      (k .too (route-added (b .clock)) (clock-bound (b .clock) e) 
+      (k .too (route-added (b .clock)) (clock-bound (b .clock) e)
       (Memᴰ·append-right (map reported-bound (tail (route-passed (k .route) (k .times)))) (Memᴰ·map (clock-bound (b .clock)) (k .here)))))
 
   -- the times that fit are the solutions of the arcs
   pub fits-are-solutions : (t : Times) → Fits p b t ↔ Solves (arcs p b) t
   unfolding all-bounds
-  fits-are-solutions t =
-      (
-        fit-solves t,
-        λ s. record {
-          starts = s .zeroed;
-          meets = λ c m. solved-met t s c (Memᴰ·append-left (added-bounds p b) m);
-          agrees = solved-agrees t s;
-          after-clock = solved-waits t s;
-        },
-      )
+  fits-are-solutions t = (
+    fit-solves t,
+    λ s. record {
+      starts = s .zeroed;
+      meets = λ c m. solved-met t s c (Memᴰ·append-left (added-bounds p b) m);
+      agrees = solved-agrees t s;
+      after-clock = solved-waits t s;
+    },
+  )

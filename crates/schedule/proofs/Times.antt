@@ -10,7 +10,7 @@ use mathlib.Core.Option.{Option, none, some, Option·none-ne-some, Option·some-
 use lib.IntN.{ℤ, pos, negsuc}
 use lib.Signed.{_≤ℤ_}
 use lib.ListN.{length, getD, length-map, List·getD-map}
-use Rattle.signed.proofs.Signed.{signed, Within}
+use Rattle.laws.proofs.Signed.{signed, Within}
 use Rattle.floor.specs.Plan.{Plan}
 use Rattle.network.specs.Events.{event-count}
 use Rattle.network.specs.Meaning.{Times}

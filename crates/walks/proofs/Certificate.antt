@@ -22,7 +22,7 @@ use Rattle.walks.proofs.PassNumber.{same-everywhere}
 use Rattle.walks.proofs.Settling.{ends-below, changed-before, settled-after, settled-walk}
 use Rattle.walks.proofs.Least.{along-walk, walk-below, below-solutions}
 use Rattle.walks.proofs.Unsettled.{solution-settles}
-use Rattle.signed.proofs.Signed.{signed, sum, difference, up, dn, neg-up, neg-dn}
+use Rattle.laws.proofs.Signed.{signed, sum, difference, up, dn, neg-up, neg-dn}
 
 -- ---- a product by a natural
 

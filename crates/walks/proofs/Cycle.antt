@@ -6,7 +6,7 @@ use lib.IntN.{ℤ, pos, _+ℤ_}
 use lib.Signed.{_≤ℤ_}
 use Rattle.walks.specs.Walks.{Arc}
 use Rattle.walks.specs.Solutions.{Back, total, PositiveCycle}
-use Rattle.signed.proofs.Signed.{signed, sum}
+use Rattle.laws.proofs.Signed.{signed, sum}
 
 -- along arcs followed backwards, times that each of them allows grow by at least what they add in all
 pub along-back : (t : ℕ → ℤ) (v u : ℕ) (l : List Arc) → ((a : Arc) → List·Memᴰ a l → (t (a .from) +ℤ a .adds) ≤ℤ t (a .to)) → Back v u l

@@ -12,7 +12,7 @@ use lib.ListN.{length, getD, set, replicate, length-set, length-replicate}
 use lib.Seq.{getD-set-same}
 use Rattle.walks.specs.Walks.{Arc, Walk, stay, go, WalkWithin, Greatest}
 use Rattle.walks.specs.Passes.{Sums, greater, plus, raise, raise-all, pass, at-start, sums}
-use Rattle.signed.proofs.Signed.{signed, sum}
+use Rattle.laws.proofs.Signed.{signed, sum}
 
 -- a sum that is there, and is at least w
 pub record AtLeast (o : Option ℤ) (w : ℤ) : Type 0 where

@@ -11,7 +11,7 @@ use Rattle.walks.specs.Passes.{sums, Settled, settled}
 use Rattle.walks.specs.Solutions.{Solves, Between}
 use Rattle.walks.proofs.Greatest.{AtLeast, some-equal}
 use Rattle.walks.proofs.Settling.{one-value, settled-bounds, settled-walk, settled-start}
-use Rattle.signed.proofs.Signed.{signed, sum}
+use Rattle.laws.proofs.Signed.{signed, sum}
 
 -- times that every arc allows are not below the time at the start plus the sum of a walk
 pub along-walk : (arcs : List Arc) (t : ℕ → ℤ) → ((a : Arc) → List·Memᴰ a arcs → (t (a .from) +ℤ a .adds) ≤ℤ t (a .to))

@@ -6,24 +6,19 @@ use native.Mathlib.Omega.{arith}
 use mathlib.Core.Path.{_≡_, refl, ap, sym, _∙_, subst}
 use mathlib.Core.Logic.{_≢_}
 use mathlib.Core.Bool.{Bool, true, false, cond}
-use mathlib.Core.List.{List, [], _∷_, List·Memᴰ, List·Memᴰ·head, List·Memᴰ·tail}
+use mathlib.Core.List.{List, [], _∷_}
 use mathlib.Core.Option.{Option, none, some, Option·none-ne-some, Option·some-injective}
 use lib.IntN.{ℤ, _+ℤ_}
 use lib.Signed.{ltZ, _<ℤ_}
 use lib.ListN.{length, getD, set, length-set, length-replicate}
 use lib.Seq.{getD-set-same, getD-set-other}
+use Rattle.laws.proofs.Members.{at-place}
 use Rattle.walks.specs.Walks.{Arc}
 use Rattle.walks.specs.Passes.{Sums, greater, plus, raise, raise-all, pass, sums}
 use Rattle.walks.specs.Parents.{Parents, raises, adopt, adopt-all, parents, no-arc}
 use Rattle.walks.specs.Solutions.{Between}
 use Rattle.walks.proofs.Greatest.{sums-length, raise-one-length}
-use Rattle.signed.proofs.Signed.{signed}
-
--- what stands at a place of a list is one of it
-pub getD-mem : {A : Type 0} (l : List A) (i : ℕ) (d : A) → i < length l → List·Memᴰ (getD l i d) l
-getD-mem [] i d h = absurd (omega arith)
-getD-mem (x ∷ xs) zero d h = List·Memᴰ·head refl
-getD-mem (x ∷ xs) (suc i) d h = List·Memᴰ·tail (getD-mem xs i d (omega arith))
+use Rattle.laws.proofs.Signed.{signed}
 
 -- the test is the one by which `greater` picks the second
 pub greater-is : (x y : Option ℤ) → greater x y ≡ cond (raises x y) y x
@@ -155,5 +150,5 @@ module _ (arcs : List Arc) where
   outcome n between k v =
       at-all (sums arcs n k) (parents arcs n k) v arcs 0 (sums arcs n k) (parents arcs n k)
       (λ j. ap arc (sym (zero-add j))) (zero-add (length arcs))
-      (λ j h. let l : (arc j) .to < n = between (arc j) (getD-mem arcs j no-arc h) .1 in
+      (λ j h. let l : (arc j) .to < n = between (arc j) (at-place arcs j no-arc h) .1 in
       (rw (sums-length arcs n k) l, rw (parents-length arcs n k) l)) same

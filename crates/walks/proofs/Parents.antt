@@ -8,13 +8,14 @@ use mathlib.Core.Option.{Option, none, some, Option·none-ne-some, Option·some-
 use lib.IntN.{ℤ, pos, _+ℤ_}
 use lib.Signed.{_≤ℤ_, _<ℤ_}
 use lib.ListN.{length, getD, replicate}
+use Rattle.laws.proofs.Members.{at-place}
 use Rattle.walks.specs.Walks.{Arc}
 use Rattle.walks.specs.Passes.{Sums, sums}
 use Rattle.walks.specs.Parents.{Parents, parents, no-arc, before, times, back, trail}
 use Rattle.walks.specs.Solutions.{Between, Back, total}
 use Rattle.walks.proofs.Settling.{one-value}
-use Rattle.walks.proofs.Outcome.{arc, Outcome, same, rose, outcome, getD-mem}
-use Rattle.signed.proofs.Signed.{signed, sum}
+use Rattle.walks.proofs.Outcome.{arc, Outcome, same, rose, outcome}
+use Rattle.laws.proofs.Signed.{signed, sum}
 
 -- ---- steps back
 
@@ -188,7 +189,7 @@ module _ (arcs : List Arc) (n : ℕ) (between : Between arcs n) where
       record {
         end = c .end;
         is = c .is;
-        of-arcs = all-of (arc arcs i) l (getD-mem arcs i no-arc (h .place)) (c .of-arcs);
+        of-arcs = all-of (arc arcs i) l (at-place arcs i no-arc (h .place)) (c .of-arcs);
         walk = (sym (h .to), c .walk);
         long = omega (arith, c .long);
         le = omega (signed, sum su w, sum (c .end) (total l), sum w (total l), sum (c .end) (w +ℤ total l), c .le);

@@ -10,7 +10,7 @@ use lib.ListN.{getD}
 use Rattle.walks.specs.Walks.{Arc, Walk, stay, go, WalkWithin}
 use Rattle.walks.specs.Passes.{sums}
 use Rattle.walks.proofs.Greatest.{some-equal}
-use Rattle.signed.proofs.Signed.{Within, up-sum, dn-sum}
+use Rattle.laws.proofs.Signed.{Within, up-sum, dn-sum}
 
 -- what is within a bound is within a greater one
 wider : (z : ℤ) (A B : ℕ) → A ≤ B → Within A z → Within B z

@@ -13,7 +13,7 @@ use Rattle.walks.specs.Passes.{Sums, pass, sums, pass-number, Settled, s
 use Rattle.walks.specs.Solutions.{Between}
 use Rattle.walks.proofs.Greatest.{AtLeast, at-least, EndsBelow, raise-all-keeps, none-greater, some-equal}
 use Rattle.walks.proofs.PassNumber.{first-is, agree-eq, agrees-of}
-use Rattle.signed.proofs.Signed.{signed, sum}
+use Rattle.laws.proofs.Signed.{signed, sum}
 
 -- arcs between n events end at one of them
 pub ends-below : (arcs : List Arc) (n : ℕ) → Between arcs n → EndsBelow arcs n

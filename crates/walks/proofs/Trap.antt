@@ -10,6 +10,7 @@ use mathlib.Core.Option as Opt
 use lib.IntN.{ℤ, pos, _+ℤ_}
 use lib.Signed.{_<ℤ_}
 use lib.ListN.{length, getD}
+use Rattle.laws.proofs.Members.{at-place}
 use Rattle.walks.specs.Walks.{Arc, Walk, stay, go}
 use Rattle.walks.specs.Passes.{at-start, sums}
 use Rattle.walks.specs.Parents.{Parents, parents, no-arc, before, times, back, trail, Cyclic, Trapped}
@@ -18,9 +19,9 @@ use Rattle.walks.proofs.Greatest.{AtLeast, no-sum, none-greater}
 use Rattle.walks.proofs.Settling.{ends-below}
 use Rattle.walks.proofs.Search.{FirstBelow, found, nowhere, first}
 use Rattle.walks.proofs.Orbit.{times-add, lands, forever}
-use Rattle.walks.proofs.Outcome.{arc, Outcome, same, rose, outcome, getD-mem}
+use Rattle.walks.proofs.Outcome.{arc, Outcome, same, rose, outcome}
 use Rattle.walks.proofs.Parents.{some-parent, sum-at, parent-at, held, rooted, Chain, chain}
-use Rattle.signed.proofs.Signed.{signed, sum, lt-or-le}
+use Rattle.laws.proofs.Signed.{signed, sum, lt-or-le}
 
 -- whether an event has no parent
 none? : (o : Option ℕ) → Dec (o ≡ none)
@@ -65,7 +66,7 @@ module _ (arcs : List Arc) (n : ℕ) (p : 0 < n) (between : Between arcs n) wher
     where
       by : (o : Option ℕ) → parent-at arcs n between k u ≡ o → elim o [ none ↦ u | some i ↦ (arc arcs i) .from ] < n
       by none e = h
-      by (some i) e = between (arc arcs i) (getD-mem arcs i no-arc (held arcs n between k u i e .place)) .0
+      by (some i) e = between (arc arcs i) (at-place arcs i no-arc (held arcs n between k u i e .place)) .0
 
   -- an event without a parent j steps back, j at most k, would be the start, with a walk of j arcs whose sum is at least the new one
   no-root : (k v j : ℕ) → j ≤ k → Rise k v (sum-at arcs n between (suc k) v)

@@ -1,0 +1,1 @@
+// Laws of integers, lists and tests that the kit's libraries lack, in proofs/.

@@ -1,1 +1,0 @@
-// Lists and their members: laws, in proofs/.

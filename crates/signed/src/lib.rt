@@ -1,1 +1,0 @@
-// Integers that the decision procedure for linear arithmetic can read: laws, in proofs/.
