@@ -28,7 +28,7 @@ use Rattle.schedule.proofs.Times.{timetable-earliest, timetable-counted, timeta
 use Rattle.hegtalim.specs.declared.Timed.{Timed}
 use Rattle.hegtalim.specs.PlanSlice.{plan-need, plan-slice, Held, held}
 use Rattle.hegtalim.specs.Outcomes.{Load, load, book-answer, Reporting, report, Lent, long-enough, meets-needs, times-written, chain-written, Timetabled, too-short, no-plan, timed, no-times}
-use Rattle.hegtalim.specs.Claim.{Call, Reply, Replies, to-report, to-timetable, Played, done, then, book-after-call, book-after-calls, Right, AllRight, times-in, Earliest, Impossible, Truthful, Demand-3, Answered}
+use Rattle.hegtalim.specs.Claim.{Call, reporting, timing, Reply, reported, Replies, to-report, to-timetable, Played, done, then, book-after-call, book-after-calls, Right, AllRight, times-in, Earliest, Impossible, Truthful, Demand-3, Answered}
 use Rattle.hegtalim.specs.Claim as Claim
 use Rattle.hegtalim.proofs.Slice.{held-slice, slice-length, held-says}
 use Rattle.hegtalim.proofs.Calls.{load-accepted, load-held, report-slice}
@@ -241,3 +241,14 @@ answered s l = by (meets-needs s l) refl (held s) refl
     by false e o f = (Timed.TooShort, l, too-short e)
     by true e none f = (Timed.NoPlan, l, no-plan e f)
     by true e (some h) f = held-out h e f (timetable (h .plan) (h .book)) refl
+
+-- so every list of calls can be played, from any slice: the claim speaks of them all
+pub every-list-played : (s : List ℕ) (calls : List Call) → (replies : List Reply) × (s′ : List ℕ) × Played s calls replies s′
+every-list-played s [] = ([], s, done s)
+every-list-played s (reporting r ∷ cs) =
+    let (as′, s′, more) = every-list-played (report s r .plan) cs in
+    (reported (report s r .answer) ∷ as′, s′, then s (report s r .plan) s′ (reporting r) (reported (report s r .answer)) cs as′ (to-report s r) more)
+every-list-played s (timing l ∷ cs) =
+    let (a, l′, t) = answered s l in
+    let (as′, s′, more) = every-list-played s cs in
+    (Claim.timed a ∷ as′, s′, then s s s′ (timing l) (Claim.timed a) cs as′ (to-timetable s l l′ a t) more)

@@ -1,15 +1,15 @@
 -- The signed numbers of `lib.IntN`, read by `omega`. A number z is up z - dn z, for two naturals of which one is 0.
 -- `≤ℤ`, `<ℤ` and `≡` on ℤ are then orders and equations of naturals, and `sum` says what a sum's two parts are.
 --     omega (signed, sum a b)      proves an order or an equation of ℤ from those in reach; list `sum a b` for each sum a +ℤ b that it has to see through,
---                                  `difference a b` for each difference, `neg-up a` and `neg-dn a` for each negℤ a
+--                                  `difference a b` for each difference, `neg-up a` and `neg-dn a` for each negℤ a, `product k a` for each pos k *ℤ a
 -- Assumes nothing.
 use mathlib.Core.Path.{_≡_, refl, ap}
 use mathlib.Core.Logic.{_⊎_, inl, inr}
 use mathlib.Core.Bool.{Bool, true, false, not, cond}
-use Prim.Native.Nat.{ℕ, zero, suc, _+_, _-_, _≤_, _<_}
+use Prim.Native.Nat.{ℕ, zero, suc, _+_, _*_, _-_, _≤_, _<_}
 use native.Mathlib.Omega.{arith}
 use lib.Dec.{T, ltb, leb→le, le→leb, ltb→lt, lt→ltb, nltb→le}
-use lib.IntN.{ℤ, pos, negsuc, _+ℤ_, negℤ, _-ℤ_, subℕ}
+use lib.IntN.{ℤ, pos, negsuc, _+ℤ_, negℤ, _-ℤ_, _*ℤ_, subℕ}
 use lib.Signed.{mag, leZ, ltZ, _≤ℤ_, _<ℤ_, leZ-yes, ltZ-yes, ltZ-no}
 
 abbrev pub up : ℤ → ℕ
@@ -56,6 +56,12 @@ neg-dn (negsuc n) = refl
 
 pub difference : (a b : ℤ) → up (a -ℤ b) + (dn a + up b) ≡ dn (a -ℤ b) + (up a + dn b)
 difference a b = omega (arith, sum a (negℤ b), neg-up b, neg-dn b)
+
+-- ---- a product by a natural
+
+pub product : (k : ℕ) (z : ℤ) → up (pos k *ℤ z) + k * dn z ≡ dn (pos k *ℤ z) + k * up z
+product k (pos b) = omega arith
+product k (negsuc b) = omega (arith, neg-up (pos (k * suc b)), neg-dn (pos (k * suc b)))
 
 -- ---- how far a sum can grow
 

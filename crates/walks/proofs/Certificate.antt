@@ -22,14 +22,7 @@ use Rattle.walks.proofs.PassNumber.{same-everywhere}
 use Rattle.walks.proofs.Settling.{ends-below, changed-before, settled-after, settled-walk}
 use Rattle.walks.proofs.Least.{along-walk, walk-below, below-solutions}
 use Rattle.walks.proofs.Unsettled.{solution-settles}
-use Rattle.laws.proofs.Signed.{signed, sum, difference, up, dn, neg-up, neg-dn}
-
--- ---- a product by a natural
-
--- what `omega` reads of it, as `sum` says what it reads of a sum
-product : (k : ℕ) (z : ℤ) → up (pos k *ℤ z) + k * dn z ≡ dn (pos k *ℤ z) + k * up z
-product k (pos b) = omega arith
-product k (negsuc b) = omega (arith, neg-up (pos (k * suc b)), neg-dn (pos (k * suc b)))
+use Rattle.laws.proofs.Signed.{signed, sum, difference, product}
 
 -- ---- walks of weights: the weight of a walk of j arcs with the sum w is 8,192 times w, less j
 
