@@ -21,7 +21,7 @@ use Rattle.schedule.specs.Chain.{Item, direction-number}
 use Rattle.schedule.proofs.Log.{replay-snoc}
 use Rattle.schedule.proofs.Logged.{Logged}
 use Rattle.schedule.proofs.Times.{timetable-length}
-use Rattle.schedule.proofs.ChainLength.{chain-short}
+use Rattle.schedule.proofs.ChainSizes.{chain-short}
 use Rattle.hegtalim.specs.declared.Loaded.{Loaded}
 use Rattle.hegtalim.specs.declared.Reported.{Reported}
 use Rattle.hegtalim.specs.declared.Timed.{Timed}

@@ -1,9 +1,9 @@
 -- A positive cycle of arcs, read the other way, is a chain; and a chain excludes times that fit. Assumes nothing.
-use Prim.Native.Nat.{ℕ, suc, _+_, _≤_}
-use mathlib.Core.Path.{_≡_, refl, ap, ap₂, sym, _∙_, subst}
+use Prim.Native.Nat.{ℕ, suc, _≤_}
+use mathlib.Core.Path.{_≡_, refl, ap, sym, _∙_, subst}
 use mathlib.Core.Logic.{⊎-elim}
-use mathlib.Core.Bool.{Bool, true, false, _&&_, _||_, not, cond}
-use mathlib.Core.List.{List, [], _∷_, map, List·Memᴰ, List·Memᴰ·head, List·Memᴰ·tail, List·Memᴰ·not-nil, List·Memᴰ·cases-cons, List·Memᴰ·append-cases, List·Memᴰ·eq-of-singleton, Memᴰ·append-left, Memᴰ·append-right, Memᴰ·of-map}
+use mathlib.Core.Bool.{Bool, true, false, _&&_, _||_, not}
+use mathlib.Core.List.{List, [], _∷_, map, List·Memᴰ, List·Memᴰ·head, List·Memᴰ·tail, List·Memᴰ·not-nil, List·Memᴰ·cases-cons, List·Memᴰ·eq-of-singleton}
 use mathlib.Core.Option.{Option, none, some, Option·none-ne-some, Option·some-injective}
 use lib.Dec.{T, not-T, eqb, eqb→eq, eqb-refl}
 use lib.IntN.{ℤ, pos, negℤ, negℤ-negℤ, _+ℤ_}
@@ -18,12 +18,13 @@ use Rattle.network.specs.Meaning.{Times, Meets}
 use Rattle.walks.specs.Walks.{Arc}
 use Rattle.walks.specs.Solutions.{Back, NoneTwice, total, PositiveCycle}
 use Rattle.schedule.specs.Book.{Book}
-use Rattle.schedule.specs.Added.{added-bounds, all-bounds, Numbered, numbered, added-numbered, numbered-bounds}
+use Rattle.schedule.specs.Added.{all-bounds, numbered, numbered-bounds}
 use Rattle.schedule.specs.Fits.{Fits}
 use Rattle.schedule.specs.Timetable.{forward, backward, ways, arcs}
 use Rattle.schedule.specs.Chain.{Direction, onward, back, Item, Leg, onward-leg, leg, leg-of, legs, linked, begins-at, no-event-twice, cost, closed-below-0, is-chain}
 use Rattle.schedule.proofs.Books.{KeptBook}
 use Rattle.schedule.proofs.Solutions.{bound-met}
+use Rattle.schedule.proofs.Legs.{legs-cons, legs-bounds, numbered-bound}
 use Rattle.schedule.proofs.Numbers.{has-number}
 
 -- ---- a leg is an arc read the other way
@@ -47,16 +48,6 @@ way-leg c a m = ⊎-elim (λ (e : a ≡ forward c). (back, ap (λ (x : Arc). som
 
 -- ---- from a cycle to a chain
 
-legs-cons : (bs : List Numbered) (i : Item) (is : List Item) (l : Leg) (ls : List Leg) → leg-of bs i ≡ some l → legs bs is ≡ some ls
-    → legs bs (i ∷ is) ≡ some (l ∷ ls)
-unfolding legs
-legs-cons bs i is l ls e f = by (leg-of bs i) (legs bs is) e f
-  where
-    by : (o : Option Leg) (q : Option (List Leg)) → o ≡ some l → q ≡ some ls
-        → _≡_ {A = Option (List Leg)} (elim o [ none ↦ none | some x ↦ elim q [ none ↦ none | some xs ↦ some (x ∷ xs) ] ]) (some (l ∷ ls))
-    by none q e f = absurd (Option·none-ne-some _ e)
-    by (some x) none e f = absurd (Option·none-ne-some _ f)
-    by (some x) (some xs) e f = ap₂ (λ (y : Leg) (ys : List Leg). some (y ∷ ys)) (Option·some-injective _ _ e) (Option·some-injective _ _ f)
 
 module _ (p : Plan) (b : Book) (kept : KeptBook p b) (few : length (bounds p) ≤ 8192) where
   -- an arc has an item whose leg is its mirror
@@ -162,65 +153,6 @@ leg-holds t c m back l e =
     subst (Holds t) (Option·some-injective _ _ e)
     (omega (signed, u, sum (t (c .to)) (negℤ (pos (c .lo))), neg-up (pos (c .lo)), neg-dn (pos (c .lo)), difference (t (c .to)) (t (c .from))))
 
--- an item's leg is that of a numbered bound
-leg-bound : (bs : List Numbered) (i : Item) (l : Leg) → leg-of bs i ≡ some l → (x : Numbered) × List·Memᴰ x bs × (leg (x .bound) (i .direction) ≡ some l)
-unfolding leg-of
-leg-bound [] i l e = absurd (Option·none-ne-some _ e)
-leg-bound (x ∷ bs) i l e = by (eqb (x .number) (i .number)) e (leg-bound bs i l)
-  where
-    by : (t : Bool) → cond t (leg (x .bound) (i .direction)) (leg-of bs i) ≡ some l
-        → (leg-of bs i ≡ some l → (y : Numbered) × List·Memᴰ y bs × (leg (y .bound) (i .direction) ≡ some l))
-        → (y : Numbered) × List·Memᴰ y (x ∷ bs) × (leg (y .bound) (i .direction) ≡ some l)
-    by true e more = (x, List·Memᴰ·head refl, e)
-    by false e more = let (y, m, h) = more e in (y, List·Memᴰ·tail m, h)
-
--- the numbered bounds are the bounds
-own-bound : (bs : List Bound) (i : ℕ) (x : Numbered) → List·Memᴰ x (numbered i bs) → List·Memᴰ (x .bound) bs
-unfolding numbered
-own-bound [] i x m = absurd (List·Memᴰ·not-nil m)
-own-bound (b ∷ bs) i x m =
-    ⊎-elim (λ (e : x ≡ record { number = i; bound = b }). List·Memᴰ·head (ap (λ (y : Numbered). y .bound) e)) (λ t. List·Memᴰ·tail (own-bound bs (suc i) x t))
-    (List·Memᴰ·cases-cons m)
-
-pub numbered-bound : (p : Plan) (b : Book) (x : Numbered) → List·Memᴰ x (numbered-bounds p b) → List·Memᴰ (x .bound) (all-bounds p b)
-unfolding numbered-bounds all-bounds added-numbered
-numbered-bound p b x m =
-    ⊎-elim (λ h. Memᴰ·append-left (added-bounds p b) (own-bound (bounds p) 0 x h))
-    (λ h. let (c, k, e) = Memᴰ·of-map (λ (b : Bound). record { number = 10_000 + b .to; bound = b }) (added-bounds p b) h in
-    Memᴰ·append-right (bounds p) (subst (λ (y : Numbered). List·Memᴰ (y .bound) (added-bounds p b)) e k))
-    (List·Memᴰ·append-cases (numbered 0 (bounds p)) m)
-
--- what a list of items says, taken apart
-legs-parts : (bs : List Numbered) (i : Item) (is : List Item) (ls : List Leg) → legs bs (i ∷ is) ≡ some ls
-    → (l : Leg) × (more : List Leg) × (leg-of bs i ≡ some l) × (legs bs is ≡ some more) × (ls ≡ l ∷ more)
-unfolding legs
-legs-parts bs i is ls e = by (leg-of bs i) (legs bs is) refl refl e
-  where
-    by : (o : Option Leg) (q : Option (List Leg)) → leg-of bs i ≡ o → legs bs is ≡ q
-        → _≡_ {A = Option (List Leg)} (elim o [ none ↦ none | some x ↦ elim q [ none ↦ none | some xs ↦ some (x ∷ xs) ] ]) (some ls)
-        → (l : Leg) × (more : List Leg) × (leg-of bs i ≡ some l) × (legs bs is ≡ some more) × (ls ≡ l ∷ more)
-    by none q a c e = absurd (Option·none-ne-some _ e)
-    by (some x) none a c e = absurd (Option·none-ne-some _ e)
-    by (some x) (some xs) a c e = (x, xs, a, c, sym (Option·some-injective _ _ e))
-
--- each leg of a list of items is that of one of the numbered bounds
-pub legs-bounds : (bs : List Numbered) (is : List Item) (ls : List Leg) → legs bs is ≡ some ls → (l : Leg) → List·Memᴰ l ls
-    → (x : Numbered) × (d : Direction) × List·Memᴰ x bs × (leg (x .bound) d ≡ some l)
-unfolding legs
-legs-bounds bs [] ls e l m = absurd (List·Memᴰ·not-nil (subst (List·Memᴰ l) (sym (Option·some-injective _ _ e)) m))
-legs-bounds bs (i ∷ is) ls e l m =
-    let (y, more, f, g, h) = legs-parts bs i is ls e in
-    ⊎-elim
-    (λ (q : l ≡ y). let (x, k, j) = leg-bound bs i y f in (x, i .direction, k, j ∙ ap some (sym q)))
-    (λ t. legs-bounds bs is more g l t)
-    (List·Memᴰ·cases-cons (subst (List·Memᴰ l) h m))
-
--- there is a leg for each item
-pub legs-long : (bs : List Numbered) (is : List Item) (ls : List Leg) → legs bs is ≡ some ls → length ls ≡ length is
-unfolding legs
-legs-long bs [] ls e = ap length (sym (Option·some-injective _ _ e))
-legs-long bs (i ∷ is) ls e = let (l, more, f, g, h) = legs-parts bs i is ls e in ap length h ∙ ap suc (legs-long bs is more g)
-
 -- along linked legs, each of which holds, the end comes no later than the beginning and the costs
 linked-holds : (t : Times) (u e : ℕ) (ls : List Leg) → ((l : Leg) → List·Memᴰ l ls → Holds t l) → T (linked u e ls) → t e ≤ℤ (t u +ℤ cost ls)
 unfolding linked cost
@@ -247,6 +179,6 @@ pub chain-excludes : (p : Plan) (b : Book) → KeptBook p b → (is : List Item)
 unfolding is-chain
 chain-excludes p b kept is k t f =
     closed-excludes t (legs (numbered-bounds p b) is)
-    (λ ls e l m. let (x, d, i, q) = legs-bounds (numbered-bounds p b) is ls e l m in
-    leg-holds t (x .bound) (bound-met p b kept t f (x .bound) (numbered-bound p b x i)) d l q)
+    (λ ls e l m. let (i, x) = legs-bounds (numbered-bounds p b) is ls e l m in
+    leg-holds t (x .numbered .bound) (bound-met p b kept t f (x .numbered .bound) (numbered-bound p b (x .numbered) (x .there))) (i .direction) l (x .its-leg))
     k

@@ -4,7 +4,8 @@ pub mod Log
 pub mod Books
 pub mod Solutions
 pub mod Numbers
+pub mod Legs
 pub mod Chains
 pub mod Logged
 pub mod Times
-pub mod ChainLength
+pub mod ChainSizes
