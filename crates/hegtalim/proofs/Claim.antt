@@ -1,17 +1,18 @@
 -- The claim about whole lists of calls: demand 3, over the outcomes. Assumes nothing.
-use Prim.Native.Nat.{ℕ, _*_, _≤_, _<_}
+use Prim.Native.Nat.{ℕ, _^_, _≤_, _<_}
 use native.Mathlib.Omega.{arith}
 use mathlib.Core.Path.{_≡_, refl, ap, sym, _∙_, subst}
 use mathlib.Core.Logic.{_↔_, _≢_}
 use mathlib.Core.Bool.{Bool, true, false, cond}
-use mathlib.Core.List.{List, [], _∷_, _++_, map}
+use mathlib.Core.List.{List, [], _∷_, _++_, map, Memᴰ·of-map}
 use mathlib.Core.Option.{Option, none, some, Option·none-ne-some, Option·some-injective}
 use lib.Dec.{T, leb, le→leb}
 use lib.IntN.{pos}
 use lib.ListN.{length, getD, take, drop, length-map}
 use mir.Facts.{and-yes, yes-and}
-use Rattle.words.specs.Words.{words, written}
-use Rattle.words.proofs.Reading.{words-length, word-at-words, written-front}
+use Rattle.laws.proofs.Members.{at-place}
+use Rattle.words.specs.Words.{words, word-at, written}
+use Rattle.words.proofs.Reading.{word-at-words, written-front}
 use Rattle.floor.specs.Refusal.{accepted}
 use Rattle.floor.specs.Plan.{Plan}
 use Rattle.floor.specs.Tables.{Tables}
@@ -24,6 +25,7 @@ use Rattle.schedule.specs.Chain.{Item, direction-number, is-chain}
 use Rattle.schedule.proofs.Log.{replay-snoc}
 use Rattle.schedule.proofs.Logged.{Logged}
 use Rattle.schedule.proofs.Chains.{ChainWithin}
+use Rattle.schedule.proofs.ChainSizes.{chain-numbers}
 use Rattle.schedule.proofs.Times.{timetable-earliest, timetable-counted, timetable-length, timetable-range, no-timetable-chain, no-timetable-none-fit}
 use Rattle.hegtalim.specs.declared.Timed.{Timed}
 use Rattle.hegtalim.specs.PlanSlice.{plan-need, plan-slice, Held, held}
@@ -162,21 +164,29 @@ module _ (ts : Tables) (p : Plan) where
       let (counted, below) = timetable-counted p b k t e in
       record { fits = fits; earliest = least; counted = counted; below = below }
 
+  -- so are the chain's numbers
+  numbers-back : (b : Book) → Logged p b → (is : List Item) → T (is-chain p b is) → (l : Lent) (i : ℕ) → i < length is
+      → word-at 2 (chain-written is l .chain-bounds) i ≡ getD (map (λ (x : Item). x .number) is) i 0
+  unfolding chain-written written
+  numbers-back b k is c l i h =
+      let numbers : List ℕ = map (λ (x : Item). x .number) is in
+      let there : i < length numbers = subst (λ (n : ℕ). i < n) (sym (length-map is (λ (x : Item). x .number))) h in
+      let (x, m, e) = Memᴰ·of-map (λ (x : Item). x .number) is (at-place numbers i 0 there) in
+      word-at-words 2 numbers (drop (length (words 2 numbers)) (l .chain-bounds)) i there (subst (λ (n : ℕ). n < 256 ^ 2) e (chain-numbers p b k is c x m))
+
   impossible : (b : Book) → Logged p b → timetable p b ≡ none → (l : Lent) (is : List Item) → T (is-chain p b is)
       → Impossible p b (chain-written is l) (length is)
   unfolding chain-written
   impossible b k e l is c =
-      let numbers : List ℕ = map (λ (i : Item). i .number) is in
-      let directions : List ℕ = map (λ (i : Item). direction-number (i .direction)) is in
-      let two : length (words 2 numbers) ≡ 2 * length is = words-length 2 numbers ∙ ap (λ (x : ℕ). 2 * x) (length-map is (λ (i : Item). i .number)) in
+      let directions : List ℕ = map (λ (x : Item). direction-number (x .direction)) is in
       record {
         none-fit = no-timetable-none-fit p b k e;
         items = is;
         chain = c;
         long = refl;
-        bounds-handed-over = subst (λ (x : ℕ). take x (written (words 2 numbers) (l .chain-bounds)) ≡ words 2 numbers) two (written-front (words 2 numbers) (l .chain-bounds));
+        bounds-handed-over = numbers-back b k is c l;
         directions-handed-over =
-            subst (λ (x : ℕ). take x (written directions (l .chain-directions)) ≡ directions) (length-map is (λ (i : Item). direction-number (i .direction)))
+            subst (λ (x : ℕ). take x (written directions (l .chain-directions)) ≡ directions) (length-map is (λ (x : Item). direction-number (x .direction)))
             (written-front directions (l .chain-directions));
       }
 

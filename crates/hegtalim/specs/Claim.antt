@@ -1,6 +1,6 @@
 -- Demand 3 as one claim about whole lists of calls, and what 10 means, over the outcomes (document 01, "Reports and timetable").
 -- Assumes nothing.
-use Prim.Native.Nat.{ℕ, _*_, _<_}
+use Prim.Native.Nat.{ℕ, _<_}
 use mathlib.Core.Path.{_≡_}
 use mathlib.Core.Logic.{_↔_, _≢_}
 use mathlib.Core.List.{List, [], _∷_, map}
@@ -8,8 +8,8 @@ use mathlib.Core.Option.{some}
 use lib.Dec.{T}
 use lib.IntN.{pos}
 use lib.Signed.{_≤ℤ_}
-use lib.ListN.{length, take}
-use Rattle.words.specs.Words.{words, word-at}
+use lib.ListN.{length, getD, take}
+use Rattle.words.specs.Words.{word-at}
 use Rattle.floor.specs.Refusal.{accepted}
 use Rattle.floor.specs.Plan.{Plan}
 use Rattle.floor.specs.Tables.{Tables}
@@ -95,8 +95,8 @@ pub record Impossible (p : Plan) (b : Book) (l : Lent) (n : ℕ) : Type 0 where
   pub items : List Item
   pub chain : T (is-chain p b items)
   pub long : length items ≡ n
-  pub bounds-handed-over : take (2 * n) (l .chain-bounds) ≡ words 2 (map (λ (i : Item). i .number) items)
-  pub directions-handed-over : take n (l .chain-directions) ≡ map (λ (i : Item). direction-number (i .direction)) items
+  pub bounds-handed-over : (i : ℕ) → i < n → word-at 2 (l .chain-bounds) i ≡ getD (map (λ (x : Item). x .number) items) i 0
+  pub directions-handed-over : take n (l .chain-directions) ≡ map (λ (x : Item). direction-number (x .direction)) items
 
 -- "Times are returned exactly when some fit.": those returned do, and where a chain is handed over none does
 abbrev pub Truthful : Plan → Book → Timed → Lent → Type 0
