@@ -48,7 +48,6 @@ way-leg c a m = ⊎-elim (λ (e : a ≡ forward c). (back, ap (λ (x : Arc). som
 
 -- ---- from a cycle to a chain
 
-
 module _ (p : Plan) (b : Book) (kept : KeptBook p b) (few : length (bounds p) ≤ 8192) where
   -- an arc has an item whose leg is its mirror
   arc-item : (a : Arc) → List·Memᴰ a (arcs p b) → (i : Item) × (leg-of (numbered-bounds p b) i ≡ some (mirror a))

@@ -13,3 +13,4 @@ pub mod Parents
 pub mod Trap
 pub mod Unsettled
 pub mod Certificate
+pub mod Follow
