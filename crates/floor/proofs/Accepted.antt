@@ -15,13 +15,13 @@ use Rattle.csv.specs.Records.{records, fields, widen}
 use Rattle.csv.specs.Number.{number, numbers}
 use Rattle.floor.specs.declared.Reason.the-variants.{Layout, Range, RoadPair, Limit, NoCarts, PathCount, OffRoad, SameCell, Exchange}
 use Rattle.floor.specs.declared.Table.the-variants.{Roads, Carts, Paths}
-use Rattle.floor.specs.Refusal.{accepted, within-bytes, after-first-line, next}
+use Rattle.floor.specs.Refusal.{accepted, within-bytes, after-first-line, next, records-in-order}
 use Rattle.floor.specs.Plan.{Road, Cart, Plan, joined}
-use Rattle.floor.specs.Roads.{cell-range, road-ranges, road, roads-from, read-roads}
-use Rattle.floor.specs.Carts.{number-or-empty, fastest-range, slowest-range, cart, carts-from, read-carts}
-use Rattle.floor.specs.Paths.{cells-range, same-width, path, paths-from, read-paths, on-roads, off-road, collides, first-collision, earliest, at-step, same-cell, steps, first-same-cell, first-exchange}
+use Rattle.floor.specs.Roads.{cell-range, road-ranges, road, read-roads}
+use Rattle.floor.specs.Carts.{number-or-empty, fastest-range, slowest-range, cart, read-carts}
+use Rattle.floor.specs.Paths.{cells-range, same-width, path, read-paths, on-roads, off-road, collides, first-collision, earliest, at-step, same-cell, steps, first-same-cell, first-exchange}
 use Rattle.floor.specs.Tables.{Tables, read-tables}
-use Rattle.floor.proofs.Judging.{accepted-same, bind-accepted, then-accepted, and-given-accepted, none-found-accepted}
+use Rattle.floor.proofs.Judging.{accepted-same, bind-accepted, then-accepted, and-given-accepted, none-found-accepted, kept-in-order}
 
 -- all of a list are so
 abbrev pub Each : {A : Type 0} → (A → Type 0) → List A → Type 0
@@ -75,21 +75,13 @@ road-sound before r d e =
     let (_, e5) = then-accepted (leb (next before) 1024) Limit Roads _ _ d e4 in
     subst SoundRoad (accepted-same n d e5) (ranges-sound n t)
 
--- of all roads, if of those before
-roads-sound : (rs : List (List ℕ)) (before ds : List Road) → Each SoundRoad before → roads-from before rs ≡ accepted ds → Each SoundRoad ds
-unfolding roads-from
-roads-sound [] before ds h e = subst (Each SoundRoad) (accepted-same before ds e) h
-roads-sound (r ∷ rs) before ds h e =
-    let (d, one, rest) = bind-accepted (road before r) (λ (x : Road). roads-from (before ++ (x ∷ [])) rs) ds e in
-    roads-sound rs (before ++ (d ∷ [])) ds (each-more SoundRoad before d h (road-sound before r d one)) rest
-
 -- of the whole table
 read-roads-sound : (b : List ℕ) (ds : List Road) → read-roads b ≡ accepted ds → Each SoundRoad ds
 unfolding read-roads
 read-roads-sound b ds e =
     let (_, _, e1) = bind-accepted (within-bytes Roads b) _ ds e in
     let (rs, _, e2) = bind-accepted (after-first-line (bytes "from,to,length,margin") Roads (records b)) _ ds e1 in
-    roads-sound rs [] ds (each-none SoundRoad) e2
+    kept-in-order road (Each SoundRoad) (λ before r d h one. each-more SoundRoad before d h (road-sound before r d one)) rs [] ds (each-none SoundRoad) e2
 
 -- ---- carts
 
@@ -126,15 +118,14 @@ cart-sound before r c e =
     let (l, e5) = then-accepted (leb (suc (length before)) 64) Limit Carts _ _ c e4 in
     (subst SoundCart (accepted-same _ c e5) (speeds-sound f s t), leb→le _ _ l)
 
--- of all carts, if of those before; and they are at most 64
-carts-sound : (rs : List (List ℕ)) (before cs : List Cart) → Each SoundCart before → length before ≤ 64
-    → carts-from before rs ≡ accepted cs → Each SoundCart cs × (length cs ≤ 64)
-unfolding carts-from
-carts-sound [] before cs h l e = subst (λ (x : List Cart). Each SoundCart x × (length x ≤ 64)) (accepted-same before cs e) (h, l)
-carts-sound (r ∷ rs) before cs h l e =
-    let (c, one, rest) = bind-accepted (cart before r) (λ (x : Cart). carts-from (before ++ (x ∷ [])) rs) cs e in
+-- of all carts; and they are at most 64
+abbrev FewCarts : List Cart → Type 0
+FewCarts cs = Each SoundCart cs × (length cs ≤ 64)
+
+one-cart-more : (before : List Cart) (r : List ℕ) (c : Cart) → FewCarts before → cart before r ≡ accepted c → FewCarts (before ++ (c ∷ []))
+one-cart-more before r c h one =
     let (good, few) = cart-sound before r c one in
-    carts-sound rs (before ++ (c ∷ [])) cs (each-more SoundCart before c h good) (omega (arith, length-append before (c ∷ []), few)) rest
+    (each-more SoundCart before c (h .0) good, omega (arith, length-append before (c ∷ []), few))
 
 -- of the whole table, which has a cart
 read-carts-sound : (b : List ℕ) (cs : List Cart) → read-carts b ≡ accepted cs → Each SoundCart cs × (length cs ≤ 64) × (1 ≤ length cs)
@@ -142,9 +133,9 @@ unfolding read-carts
 read-carts-sound b cs e =
     let (_, _, e1) = bind-accepted (within-bytes Carts b) _ cs e in
     let (rs, _, e2) = bind-accepted (after-first-line (bytes "fastest,slowest") Carts (records b)) _ cs e1 in
-    let (all, from, e3) = bind-accepted (carts-from [] rs) _ cs e2 in
+    let (all, from, e3) = bind-accepted (records-in-order cart [] rs) _ cs e2 in
     let (t, e4) = then-accepted (leb 1 (length all)) NoCarts Carts 0 (accepted all) cs e3 in
-    let (good, few) = carts-sound rs [] all (each-none SoundCart) (omega arith) from in
+    let (good, few) = kept-in-order cart FewCarts one-cart-more rs [] all (each-none SoundCart, omega arith) from in
     subst (λ (x : List Cart). Each SoundCart x × (length x ≤ 64) × (1 ≤ length x)) (accepted-same all cs e4) (good, few, leb→le _ _ t)
 
 -- ---- paths
@@ -199,24 +190,20 @@ unfolding same-width steps
 wide-more [] q h t l = each-more (Wide (q ∷ [])) [] q (each-none (Wide (q ∷ []))) (refl, l)
 wide-more (p ∷ ps) q h t l = each-more (Wide (p ∷ ps)) (p ∷ ps) q h (sym (eqb→eq (length p) (length q) t), l)
 
--- of all paths, if of those before
-paths-sound : (rs before ps : List (List ℕ)) → Each (Wide before) before → paths-from before rs ≡ accepted ps → Each (Wide ps) ps
-unfolding paths-from
-paths-sound [] before ps h e = subst (λ (x : List (List ℕ)). Each (Wide x) x) (accepted-same before ps e) h
-paths-sound (r ∷ rs) before ps h e =
-    let (q, one, rest) = bind-accepted (path before r) (λ (x : List ℕ). paths-from (before ++ (x ∷ [])) rs) ps e in
-    let (same, some-cell) = path-sound before r q one in
-    paths-sound rs (before ++ (q ∷ [])) ps (wide-more before q h same some-cell) rest
+-- of all paths
+one-path-more : (before : List (List ℕ)) (r q : List ℕ) → Each (Wide before) before → path before r ≡ accepted q
+    → Each (Wide (before ++ (q ∷ []))) (before ++ (q ∷ []))
+one-path-more before r q h one = let (same, some-cell) = path-sound before r q one in wide-more before q h same some-cell
 
 -- of the whole table, which has as many paths as there are carts
 read-paths-sound : (carts : ℕ) (b : List ℕ) (ps : List (List ℕ)) → read-paths carts b ≡ accepted ps → Each (Wide ps) ps × (length ps ≡ carts)
 unfolding read-paths
 read-paths-sound carts b ps e =
     let (_, _, e1) = bind-accepted (within-bytes Paths b) _ ps e in
-    let (all, from, e2) = bind-accepted (paths-from [] (records b)) _ ps e1 in
+    let (all, from, e2) = bind-accepted (records-in-order path [] (records b)) _ ps e1 in
     let (t, e3) = then-accepted (eqb (length all) carts) PathCount Paths 0 (accepted all) ps e2 in
     subst (λ (x : List (List ℕ)). Each (Wide x) x × (length x ≡ carts)) (accepted-same all ps e3)
-    (paths-sound (records b) [] all (each-none (Wide [])) from, eqb→eq (length all) carts t)
+    (kept-in-order path (λ (x : List (List ℕ)). Each (Wide x) x) one-path-more (records b) [] all (each-none (Wide [])) from, eqb→eq (length all) carts t)
 
 -- ---- what two carts or a cart and the roads may not do
 

@@ -12,11 +12,11 @@ use Rattle.csv.specs.Number.{number, numbers}
 use Rattle.csv.proofs.Text.{same-equal}
 use Rattle.csv.proofs.Bytes.{NoZero, NoZeros, no-zero-is, records-nonzero, fields-nonzero, number-nonzero, numbers-nonzero}
 use Rattle.floor.specs.declared.Table.{Table}
-use Rattle.floor.specs.Refusal.{accepted, within-bytes, after-first-line}
+use Rattle.floor.specs.Refusal.{Judged, accepted, within-bytes, after-first-line, records-in-order}
 use Rattle.floor.specs.Plan.{Road, Cart, Plan}
-use Rattle.floor.specs.Roads.{road, roads-from, read-roads}
-use Rattle.floor.specs.Carts.{number-or-empty, cart, carts-from, read-carts}
-use Rattle.floor.specs.Paths.{path, paths-from, read-paths}
+use Rattle.floor.specs.Roads.{road, read-roads}
+use Rattle.floor.specs.Carts.{number-or-empty, cart, read-carts}
+use Rattle.floor.specs.Paths.{path, read-paths}
 use Rattle.floor.specs.Tables.{Tables, read-tables}
 use Rattle.floor.proofs.Judging.{refused-not-accepted, accepted-same, bind-accepted, need-accepted, then-accepted, and-given-accepted}
 
@@ -39,20 +39,21 @@ first-line-nonzero line t (r ∷ rs) rest e n ns =
     let (fixed, kept) = then-accepted (same line r) _ t 0 (accepted rs) rest e in
     (subst NoZero (same-equal line r fixed) n, subst NoZeros (sym (accepted-same rs rest kept)) ns)
 
+-- a zero byte lies in no record that is taken
+taken-nonzero : {A : Type 0} (judge : List A → List ℕ → Judged A) → ((before : List A) (r : List ℕ) (a : A) → judge before r ≡ accepted a → NoZero r)
+    → (rs : List (List ℕ)) (before all : List A) → records-in-order judge before rs ≡ accepted all → NoZeros rs
+unfolding records-in-order
+taken-nonzero judge each [] before all e = tt
+taken-nonzero {A} judge each (r ∷ rs) before all e =
+    let (a, one, rest) = bind-accepted (judge before r) (λ (x : A). records-in-order judge (before ++ (x ∷ [])) rs) all e in
+    (each before r a one, taken-nonzero judge each rs (before ++ (a ∷ [])) all rest)
+
 -- ---- roads
 
 -- an accepted record is all numbers
 road-nonzero : (before : List Road) (r : List ℕ) (d : Road) → road before r ≡ accepted d → NoZero r
 unfolding road
 road-nonzero before r d e = let (ns, there, rest) = and-given-accepted (numbers (fields r)) _ _ _ _ d e in fields-nonzero r (numbers-nonzero (fields r) ns there)
-
--- and so is each of them
-roads-nonzero : (before : List Road) (rs : List (List ℕ)) (ds : List Road) → roads-from before rs ≡ accepted ds → NoZeros rs
-unfolding roads-from
-roads-nonzero before [] ds e = tt
-roads-nonzero before (r ∷ rs) ds e =
-    let (d, one, more) = bind-accepted (road before r) (λ d. roads-from (before ++ (d ∷ [])) rs) ds e in
-    (road-nonzero before r d one, roads-nonzero (before ++ (d ∷ [])) rs ds more)
 
 -- the first line's letters and commas
 roads-line : NoZero (bytes "from,to,length,margin")
@@ -65,7 +66,7 @@ unfolding read-roads
 roads-fine b ds e =
     let (u, short, judged) = bind-accepted (within-bytes _ b) _ ds e in
     let (rs, first, rest) = bind-accepted (after-first-line (bytes "from,to,length,margin") _ (records b)) _ ds judged in
-    (records-nonzero b (first-line-nonzero _ _ (records b) rs first roads-line (roads-nonzero [] rs ds rest)), within _ b u short)
+    (records-nonzero b (first-line-nonzero _ _ (records b) rs first roads-line (taken-nonzero road road-nonzero rs [] ds rest)), within _ b u short)
 
 -- ---- carts
 
@@ -96,14 +97,6 @@ cart-nonzero before r c e =
     let (s, slow, rest) = and-given-accepted (number-or-empty (getD fs 1 [])) _ _ _ _ c others in
     fields-nonzero r (two-fields fs (eqb→eq (length fs) 2 two) (number-nonzero (getD fs 0 []) f fast) (number-or-empty-nonzero (getD fs 1 []) s slow))
 
--- and so is each of them
-carts-nonzero : (before : List Cart) (rs : List (List ℕ)) (cs : List Cart) → carts-from before rs ≡ accepted cs → NoZeros rs
-unfolding carts-from
-carts-nonzero before [] cs e = tt
-carts-nonzero before (r ∷ rs) cs e =
-    let (c, one, more) = bind-accepted (cart before r) (λ c. carts-from (before ++ (c ∷ [])) rs) cs e in
-    (cart-nonzero before r c one, carts-nonzero (before ++ (c ∷ [])) rs cs more)
-
 -- the first line's letters and comma
 carts-line : NoZero (bytes "fastest,slowest")
 unfolding bytes
@@ -115,8 +108,8 @@ unfolding read-carts
 carts-fine b cs e =
     let (u, short, judged) = bind-accepted (within-bytes _ b) _ cs e in
     let (rs, first, others) = bind-accepted (after-first-line (bytes "fastest,slowest") _ (records b)) _ cs judged in
-    let (ds, each, rest) = bind-accepted (carts-from [] rs) _ cs others in
-    (records-nonzero b (first-line-nonzero _ _ (records b) rs first carts-line (carts-nonzero [] rs ds each)), within _ b u short)
+    let (ds, each, rest) = bind-accepted (records-in-order cart [] rs) _ cs others in
+    (records-nonzero b (first-line-nonzero _ _ (records b) rs first carts-line (taken-nonzero cart cart-nonzero rs [] ds each)), within _ b u short)
 
 -- ---- paths
 
@@ -125,21 +118,13 @@ path-nonzero : (before : List (List ℕ)) (r : List ℕ) (p : List ℕ) → path
 unfolding path
 path-nonzero before r p e = let (ns, there, rest) = and-given-accepted (numbers (fields r)) _ _ _ _ p e in fields-nonzero r (numbers-nonzero (fields r) ns there)
 
--- and so is each of them
-paths-nonzero : (before : List (List ℕ)) (rs : List (List ℕ)) (ps : List (List ℕ)) → paths-from before rs ≡ accepted ps → NoZeros rs
-unfolding paths-from
-paths-nonzero before [] ps e = tt
-paths-nonzero before (r ∷ rs) ps e =
-    let (p, one, more) = bind-accepted (path before r) (λ p. paths-from (before ++ (p ∷ [])) rs) ps e in
-    (path-nonzero before r p one, paths-nonzero (before ++ (p ∷ [])) rs ps more)
-
 -- an accepted table of paths
 pub paths-fine : (n : ℕ) (b : List ℕ) (ps : List (List ℕ)) → read-paths n b ≡ accepted ps → Fine b
 unfolding read-paths
 paths-fine n b ps e =
     let (u, short, judged) = bind-accepted (within-bytes _ b) _ ps e in
-    let (qs, each, rest) = bind-accepted (paths-from [] (records b)) _ ps judged in
-    (records-nonzero b (paths-nonzero [] (records b) qs each), within _ b u short)
+    let (qs, each, rest) = bind-accepted (records-in-order path [] (records b)) _ ps judged in
+    (records-nonzero b (taken-nonzero path path-nonzero (records b) [] qs each), within _ b u short)
 
 -- ---- the three tables
 

@@ -1,13 +1,14 @@
 -- What an accepting judgement says of each of its steps: a step accepted, a test passed, a value there, nothing found. Assumes nothing.
 use Prim.Native.Nat.{ℕ}
 use mathlib.Core.Path.{_≡_, refl, ap, sym, subst}
+use mathlib.Core.List.{List, [], _∷_, _++_}
 use mathlib.Core.Bool.{Bool, true, false}
 use mathlib.Core.Option.{Option, none, some}
 use lib.Dec.{T}
 use Rattle.floor.specs.declared.Reason.{Reason}
 use Rattle.floor.specs.declared.Table.{Table}
 use Rattle.floor.specs.declared.Refusal.{Refusal}
-use Rattle.floor.specs.Refusal.{Judged, refused, accepted, _>>=_, need, given, unless-found}
+use Rattle.floor.specs.Refusal.{Judged, refused, accepted, _>>=_, need, given, unless-found, records-in-order}
 
 -- whether a judgement accepts, and what (d where it does not)
 accepts : {A : Type 0} → Judged A → Bool
@@ -70,3 +71,15 @@ pub none-found-accepted : {B : Type 0} (o : Option ℕ) (why : Reason) (k : Judg
     → (unless-found o why >>= λ _. k) ≡ accepted b → (o ≡ none) × (k ≡ accepted b)
 none-found-accepted o why k b e =
     let (u, nothing, rest) = bind-accepted (unless-found o why) (λ _. k) b e in (unless-found-accepted o why u nothing, rest)
+
+-- ---- records in order
+
+-- what holds of those before and is kept by each record that is taken holds of all
+pub kept-in-order : {A : Type 0} (judge : List A → List ℕ → Judged A) (P : List A → Type 0)
+    → ((before : List A) (r : List ℕ) (a : A) → P before → judge before r ≡ accepted a → P (before ++ (a ∷ [])))
+    → (rs : List (List ℕ)) (before all : List A) → P before → records-in-order judge before rs ≡ accepted all → P all
+unfolding records-in-order
+kept-in-order judge P keep [] before all h e = subst P (accepted-same before all e) h
+kept-in-order {A} judge P keep (r ∷ rs) before all h e =
+    let (a, one, rest) = bind-accepted (judge before r) (λ (x : A). records-in-order judge (before ++ (x ∷ [])) rs) all e in
+    kept-in-order judge P keep rs (before ++ (a ∷ [])) all (keep before r a h one) rest

@@ -2,7 +2,7 @@
 -- Assumes nothing.
 use Prim.Native.Nat.{ℕ}
 use mathlib.Core.Bool.{Bool, true, _&&_}
-use mathlib.Core.List.{List, [], _∷_, _++_}
+use mathlib.Core.List.{List, [], _∷_}
 use mathlib.Core.Option.{Option, none, some}
 use lib.Dec.{leb, eqb}
 use lib.ListN.{length, getD}
@@ -11,7 +11,7 @@ use Rattle.csv.specs.Records.{records, fields}
 use Rattle.csv.specs.Number.{number}
 use Rattle.floor.specs.declared.Reason.the-variants.{Layout, Range, Limit, NoCarts}
 use Rattle.floor.specs.declared.Table.the-variants.{Carts}
-use Rattle.floor.specs.Refusal.{Judged, accepted, _>>=_, _>>_, need, given, within-bytes, after-first-line, next}
+use Rattle.floor.specs.Refusal.{Judged, accepted, _>>=_, _>>_, need, given, within-bytes, after-first-line, next, records-in-order}
 use Rattle.floor.specs.Plan.{Cart}
 
 -- the slowest speed is a number "or empty, which means none"
@@ -40,21 +40,16 @@ cart before r = do
   need (leb i 64) Limit Carts i
   accepted (record { fastest = f; slowest = s })
 
--- "records in order"
-unfoldable pub carts-from : List Cart → List (List ℕ) → Judged (List Cart)
-carts-from before [] = accepted before
-carts-from before (r ∷ rs) = cart before r >>= λ c. carts-from (before ++ (c ∷ [])) rs
-
 -- "Carts: the first line is the bytes `fastest,slowest`"; "5 follows the carts"
 unfoldable pub read-carts : List ℕ → Judged (List Cart)
 read-carts b = do
   within-bytes Carts b
   rs ← after-first-line (bytes "fastest,slowest") Carts (records b)
-  cs ← carts-from [] rs
+  cs ← records-in-order cart [] rs
   need (leb 1 (length cs)) NoCarts Carts 0
   accepted cs
 
 -- Names every definition of this module, for a proof that computes with them all.
 unfoldable pub open-carts : Unit {0}
-unfolding number-or-empty fastest-range slowest-range cart carts-from read-carts
+unfolding number-or-empty fastest-range slowest-range cart read-carts
 open-carts = tt

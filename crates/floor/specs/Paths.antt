@@ -10,7 +10,7 @@ use Rattle.csv.specs.Records.{records, fields}
 use Rattle.csv.specs.Number.{numbers}
 use Rattle.floor.specs.declared.Reason.the-variants.{Layout, Range, Limit, PathCount}
 use Rattle.floor.specs.declared.Table.the-variants.{Paths}
-use Rattle.floor.specs.Refusal.{Judged, accepted, _>>=_, _>>_, need, given, within-bytes, next}
+use Rattle.floor.specs.Refusal.{Judged, accepted, _>>=_, _>>_, need, given, within-bytes, next, records-in-order}
 use Rattle.floor.specs.Plan.{Road, joined}
 use Rattle.floor.specs.Roads.{cell-range}
 
@@ -34,16 +34,11 @@ path before r = do
   need (leb (length cs) 1024 && leb (i * length cs) 8192) Limit Paths i
   accepted cs
 
--- "records in order"
-unfoldable pub paths-from : List (List ℕ) → List (List ℕ) → Judged (List (List ℕ))
-paths-from before [] = accepted before
-paths-from before (r ∷ rs) = path before r >>= λ p. paths-from (before ++ (p ∷ [])) rs
-
 -- "Paths: no first line"; "6 the paths": 6 follows them, for this count of carts
 unfoldable pub read-paths : ℕ → List ℕ → Judged (List (List ℕ))
 read-paths carts b = do
   within-bytes Paths b
-  ps ← paths-from [] (records b)
+  ps ← records-in-order path [] (records b)
   need (eqb (length ps) carts) PathCount Paths 0
   accepted ps
 
@@ -109,5 +104,5 @@ first-exchange ps = earliest (exchange ps) 0 (steps ps - 1)
 
 -- Names every definition of this module, for a proof that computes with them all.
 unfoldable pub open-paths : Unit {0}
-unfolding cells-range same-width path paths-from read-paths on-roads off-road collides first-collision earliest at-step same-cell exchanged exchange steps first-same-cell first-exchange
+unfolding cells-range same-width path read-paths on-roads off-road collides first-collision earliest at-step same-cell exchanged exchange steps first-same-cell first-exchange
 open-paths = tt

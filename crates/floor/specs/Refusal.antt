@@ -2,7 +2,7 @@
 -- Assumes nothing.
 use Prim.Native.Nat.{ℕ, suc}
 use mathlib.Core.Bool.{Bool, true, false}
-use mathlib.Core.List.{List, [], _∷_}
+use mathlib.Core.List.{List, [], _∷_, _++_}
 use mathlib.Core.Option.{Option, none, some}
 use lib.Dec.{leb}
 use lib.ListN.{length}
@@ -77,7 +77,12 @@ after-first-line line t (r ∷ rs) = do
 unfoldable pub next : {A : Type 0} → List A → ℕ
 next before = suc (length before)
 
+-- "records in order": each judged in its turn, after what those before it were taken for
+unfoldable pub records-in-order : {A : Type 0} → (List A → List ℕ → Judged A) → List A → List (List ℕ) → Judged (List A)
+records-in-order judge before [] = accepted before
+records-in-order judge before (r ∷ rs) = judge before r >>= λ a. records-in-order judge (before ++ (a ∷ [])) rs
+
 -- Names every definition of this module, for a proof that computes with them all.
 unfoldable pub open-refusal : Unit {0}
-unfolding reason-number table-number _>>=_ need given unless-found within-bytes after-first-line next
+unfolding reason-number table-number _>>=_ need given unless-found within-bytes after-first-line next records-in-order
 open-refusal = tt

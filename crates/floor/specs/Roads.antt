@@ -2,7 +2,7 @@
 -- Assumes nothing.
 use Prim.Native.Nat.{ℕ, _*_}
 use mathlib.Core.Bool.{Bool, _&&_, not}
-use mathlib.Core.List.{List, [], _∷_, _++_}
+use mathlib.Core.List.{List, []}
 use lib.Dec.{leb, ltb, eqb}
 use lib.ListN.{length, getD}
 use Rattle.csv.specs.Text.{bytes}
@@ -10,7 +10,7 @@ use Rattle.csv.specs.Records.{records, fields}
 use Rattle.csv.specs.Number.{numbers}
 use Rattle.floor.specs.declared.Reason.the-variants.{Layout, Range, RoadPair, Limit}
 use Rattle.floor.specs.declared.Table.the-variants.{Roads}
-use Rattle.floor.specs.Refusal.{Judged, accepted, _>>=_, _>>_, need, given, within-bytes, after-first-line, next}
+use Rattle.floor.specs.Refusal.{Judged, accepted, _>>=_, _>>_, need, given, within-bytes, after-first-line, next, records-in-order}
 use Rattle.floor.specs.Plan.{Road, joined}
 
 -- "Cells are 0..65,534."
@@ -35,19 +35,14 @@ road before r = do
   need (leb i 1024) Limit Roads i
   accepted d
 
--- "records in order"
-unfoldable pub roads-from : List Road → List (List ℕ) → Judged (List Road)
-roads-from before [] = accepted before
-roads-from before (r ∷ rs) = road before r >>= λ d. roads-from (before ++ (d ∷ [])) rs
-
 -- "Roads: the first line is the bytes `from,to,length,margin`."
 unfoldable pub read-roads : List ℕ → Judged (List Road)
 read-roads b = do
   within-bytes Roads b
   rs ← after-first-line (bytes "from,to,length,margin") Roads (records b)
-  roads-from [] rs
+  records-in-order road [] rs
 
 -- Names every definition of this module, for a proof that computes with them all.
 unfoldable pub open-roads : Unit {0}
-unfolding cell-range road-ranges road roads-from read-roads
+unfolding cell-range road-ranges road read-roads
 open-roads = tt
