@@ -1,3 +1,4 @@
 pub mod Signed
 pub mod Members
 pub mod Tests
+pub mod Rising

@@ -1,6 +1,6 @@
 -- Tests that pass or fail, as equations. Assumes nothing.
 use Prim.Native.Nat.{ℕ, _≤_, _<_}
-use mathlib.Core.Path.{_≡_, refl, subst}
+use mathlib.Core.Path.{_≡_, refl, ap, _∙_, subst}
 use mathlib.Core.Logic.{_⊎_, inl, inr, _≢_}
 use mathlib.Core.Bool.{Bool, true, false, _||_}
 use lib.Dec.{T, eqb, ltb, eqb→eq, eqb-refl, ltb→lt, nltb→le}
@@ -21,6 +21,10 @@ equal-passes m n e = passes (eqb m n) (subst (λ (x : ℕ). T (eqb m x)) e (eqb-
 
 pub unequal-fails : (m n : ℕ) → m ≢ n → eqb m n ≡ false
 unequal-fails m n h = fails (eqb m n) (λ t. h (eqb→eq m n t))
+
+-- a test that fails tells them apart
+pub tells-apart : (m n : ℕ) → eqb m n ≡ false → m ≢ n
+tells-apart m n e q = subst T (ap (eqb m) q ∙ e) (eqb-refl m)
 
 -- one of two tests is enough
 pub yes-or : (a b : Bool) → T a ⊎ T b → T (a || b)

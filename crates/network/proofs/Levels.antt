@@ -14,7 +14,7 @@ use Rattle.floor.specs.Paths.{steps}
 use Rattle.floor.specs.Refusal.{accepted}
 use Rattle.floor.specs.Tables.{Tables}
 use Rattle.floor.proofs.Accepted.{Sound}
-use Rattle.network.specs.Events.{Visit, Kind, approach, entry, leave, Point, point, points-after, points, Route, routes-of, route-points, start, passing, events, event-count, finish-event, last-event, event-of}
+use Rattle.network.specs.Events.{Visit, Kind, approach, leave, Point, point, points-after, points, Route, routes-of, route-points, start, passing, events, event-count, finish-event, last-event, event-of}
 use Rattle.network.specs.Bounds.{Bound, no-earlier, first-later, bounds}
 use Rattle.network.specs.Judge.{judge}
 use Rattle.network.specs.Levels.{kind-level, point-level, level, level-of}
@@ -23,7 +23,9 @@ use Rattle.laws.proofs.Members.{at-place}
 use Rattle.network.proofs.Routes.{origin}
 use Rattle.network.proofs.Sorts.{Order, Sort, starts, travels, orders, finishes, sort-of}
 use Rattle.network.proofs.Ends.{route-within, some-point, event-found, along-ends}
-use Rattle.network.proofs.Visits.{rising-apart, route-rises, points-rise, visit-there, kind-most}
+use Rattle.laws.proofs.Rising.{rising-apart}
+use Rattle.network.proofs.Visits.{route-rises, visit-there}
+use Rattle.network.proofs.VisitPoints.{points-rise, kind-most, no-point}
 use Rattle.network.proofs.Places.{point-placed, finish-placed}
 
 -- what stands at a place of a list does not hang on what would stand past its end
@@ -94,10 +96,6 @@ above-start (x ∷ xs) d h = omega arith
 -- a bound that goes up
 abbrev pub Up : Plan → Bound → Type 0
 Up p b = level-of p (b .from) < level-of p (b .to)
-
--- a point that stands for none
-abbrev no-point : Point
-no-point = record { kind = entry; cell = 0; step = 0 }
 
 -- from the start to an entry
 start-up : (p : Plan) → Sound p → (r : Route) → List·Memᴰ r (routes-of p) → level-of p 0 < level-of p (r .first)

@@ -22,7 +22,9 @@ use Rattle.network.proofs.Judged.{judged-sound}
 use Rattle.laws.proofs.Members.{to-flat, place-of}
 use Rattle.network.proofs.Sorts.{Sort, starts, travels, orders, finishes, sort-of, start-there, travel-there, order-there, finish-there, start-in, travel-in, finish-in}
 use Rattle.network.proofs.Ends.{along-at, event-found}
-use Rattle.network.proofs.Visits.{step-of, rising-apart, route-rises, leave-there, approach-there, later-larger}
+use Rattle.laws.proofs.Rising.{rising-apart}
+use Rattle.network.proofs.Visits.{step-of, route-rises}
+use Rattle.network.proofs.VisitPoints.{leave-there, approach-there, later-larger}
 use Rattle.network.proofs.Levels.{later-step}
 
 -- ---- the first later visit to a cell

@@ -1,14 +1,15 @@
 -- Of what sort each bound of a plan is: a start, travel, order or finish bound, and of which routes. Assumes nothing.
 use Prim.Native.Nat.{ℕ}
-use mathlib.Core.Path.{_≡_, refl, ap, sym, _∙_, subst}
+use mathlib.Core.Path.{_≡_, refl, sym}
 use mathlib.Core.Logic.{_≢_, ⊎-elim}
 use mathlib.Core.Bool.{Bool, true, false, cond}
 use mathlib.Core.List.{List, [], flatMap, List·Memᴰ, List·Memᴰ·not-nil, List·Memᴰ·append-cases, List·Memᴰ·eq-of-singleton, Memᴰ·append-left, Memᴰ·append-right, Memᴰ·map, Memᴰ·of-map}
 use mathlib.Core.Option.{Option, none, some}
-use lib.Dec.{T, eqb, eqb-refl}
+use lib.Dec.{eqb}
 use Rattle.floor.specs.Plan.{Road, Plan}
 use Rattle.network.specs.Events.{Visit, approach, leave, Route, routes-of, event-of, last-event, finish-event}
 use Rattle.network.specs.Bounds.{Bound, no-earlier, start-bounds, route-parts, part-bounds, travel-bounds, first-later, between, order-bound, order-bounds-to, order-bounds, finish-bounds, bounds}
+use Rattle.laws.proofs.Tests.{tells-apart}
 use Rattle.laws.proofs.Members.{to-flat, of-flat}
 
 -- a start bound
@@ -77,10 +78,6 @@ order-is rs j k x b mj mk mx ne (some y) e m =
       is = i;
     }
 
--- two numbers that the test tells apart
-pub eqb-no : (a b : ℕ) → eqb a b ≡ false → a ≢ b
-eqb-no a b e q = subst T (ap (eqb a) q ∙ e) (eqb-refl a)
-
 -- the test for another cart was passed
 order-to-is : (rs : List Route) (j k : Route) (x : Visit) (b : Bound) → List·Memᴰ j rs → List·Memᴰ k rs → List·Memᴰ x (j .visits)
     → List·Memᴰ b (order-bounds-to j x k) → Order rs b
@@ -89,7 +86,7 @@ order-to-is rs j k x b mj mk mx m = by (eqb (j .number) (k .number)) refl m
   where
     by : (t : Bool) → eqb (j .number) (k .number) ≡ t → List·Memᴰ b (cond t [] (order-bound j x k (first-later x (k .visits)))) → Order rs b
     by true e m = absurd (List·Memᴰ·not-nil m)
-    by false e m = order-is rs j k x b mj mk mx (eqb-no (j .number) (k .number) e) (first-later x (k .visits)) refl m
+    by false e m = order-is rs j k x b mj mk mx (tells-apart (j .number) (k .number) e) (first-later x (k .visits)) refl m
 
 -- every order bound is one from some j, x and k
 pub orders-are : (rs : List Route) (b : Bound) → List·Memᴰ b (order-bounds rs) → Order rs b
