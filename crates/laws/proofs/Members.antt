@@ -45,6 +45,12 @@ place-of (x ∷ xs) a d m =
     (λ t. let (i, h, e) = place-of xs a d t in (suc i, omega (arith, h), e))
     (List·Memᴰ·cases-cons m)
 
+-- what stands at a place of a list does not hang on what would stand past its end
+pub any-default : {A : Type 0} (l : List A) (i : ℕ) (d e : A) → i < length l → getD l i d ≡ getD l i e
+any-default [] i d e h = absurd (omega arith)
+any-default (x ∷ xs) zero d e h = refl
+any-default (x ∷ xs) (suc i) d e h = any-default xs i d e (omega arith)
+
 -- ---- a list without its first
 
 pub of-drop : {A : Type 0} (k : ℕ) (l : List A) (x : A) → List·Memᴰ x (drop k l) → List·Memᴰ x l

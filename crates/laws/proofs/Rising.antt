@@ -4,7 +4,7 @@ use native.Mathlib.Nat.{eq-or-lt-of-le}
 use native.Mathlib.Omega.{arith}
 use mathlib.Core.Path.{_≡_, ap}
 use mathlib.Core.Logic.{⊎-elim}
-use mathlib.Core.List.{List, [], _∷_}
+use mathlib.Core.List.{List, [], _∷_, List·Memᴰ, List·Memᴰ·not-nil, List·Memᴰ·cases-cons}
 use lib.ListN.{length, getD}
 use Rattle.laws.proofs.Tests.{below-or-not}
 
@@ -28,6 +28,11 @@ pub rises-first : {A : Type 0} (f : A → ℕ) (x : A) (xs : List A) (i : ℕ) (
 rises-first f x [] i d h l = absurd (omega arith)
 rises-first f x (y ∷ ys) zero d h l = h .0
 rises-first f x (y ∷ ys) (suc i) d h l = omega (arith, h .0, rises-first f y ys i d (h .1) (omega arith))
+
+pub rises-member : {A : Type 0} (f : A → ℕ) (x : A) (xs : List A) (y : A) → Rises f x xs → List·Memᴰ y xs → f x < f y
+rises-member f x [] y h m = absurd (List·Memᴰ·not-nil m)
+rises-member f x (z ∷ zs) y h m =
+    ⊎-elim (λ (e : y ≡ z). let q : f y ≡ f z = ap f e in omega (arith, q, h .0)) (λ t. omega (arith, h .0, rises-member f z zs y (h .1) t)) (List·Memᴰ·cases-cons m)
 
 -- of two places, what stands at the later has the greater number
 rises-apart : {A : Type 0} (f : A → ℕ) (x : A) (xs : List A) (i j : ℕ) (d : A) → Rises f x xs → i < j → j < length (x ∷ xs)

@@ -1,5 +1,5 @@
 -- No bound of an accepted plan runs backwards: each goes from a lower level to a higher one. Assumes nothing.
-use Prim.Native.Nat.{ℕ, zero, suc, _+_, _*_, _-_, _≤_, _<_}
+use Prim.Native.Nat.{ℕ, suc, _+_, _*_, _-_, _≤_, _<_}
 use native.Mathlib.Omega.{arith}
 use mathlib.Core.Path.{_≡_, refl, ap, ap₂, sym, _∙_, subst}
 use mathlib.Core.Logic.{⊎-elim}
@@ -19,7 +19,7 @@ use Rattle.network.specs.Bounds.{Bound, no-earlier, first-later, bounds}
 use Rattle.network.specs.Judge.{judge}
 use Rattle.network.specs.Levels.{kind-level, point-level, level, level-of}
 use Rattle.network.proofs.Judged.{judged-sound}
-use Rattle.laws.proofs.Members.{at-place}
+use Rattle.laws.proofs.Members.{at-place, any-default}
 use Rattle.network.proofs.Routes.{origin}
 use Rattle.network.proofs.Sorts.{Order, Sort, starts, travels, orders, finishes, sort-of}
 use Rattle.network.proofs.Ends.{route-within, some-point, event-found, along-ends}
@@ -27,12 +27,6 @@ use Rattle.laws.proofs.Rising.{rising-apart}
 use Rattle.network.proofs.Visits.{route-rises, visit-there}
 use Rattle.network.proofs.VisitPoints.{points-rise, kind-most, no-point}
 use Rattle.network.proofs.Places.{point-placed, finish-placed}
-
--- what stands at a place of a list does not hang on what would stand past its end
-any-default : {A : Type 0} (l : List A) (i : ℕ) (d e : A) → i < length l → getD l i d ≡ getD l i e
-any-default [] i d e h = absurd (omega arith)
-any-default (x ∷ xs) zero d e h = refl
-any-default (x ∷ xs) (suc i) d e h = any-default xs i d e (omega arith)
 
 -- ---- levels of the events
 

@@ -1,5 +1,5 @@
 -- A bound's number leads to that bound: no two bounds have the same. Assumes nothing.
-use Prim.Native.Nat.{ℕ, suc, _+_, _≤_}
+use Prim.Native.Nat.{ℕ, suc, _+_, _≤_, _<_}
 use native.Mathlib.Omega.{arith}
 use mathlib.Core.Path.{_≡_, refl, ap, sym, _∙_, subst}
 use mathlib.Core.Logic.{⊎-elim}
@@ -7,6 +7,7 @@ use mathlib.Core.Bool.{Bool, cond}
 use mathlib.Core.List.{List, [], _∷_, _++_, map, tail, List·Memᴰ, List·Memᴰ·not-nil, List·Memᴰ·cases-cons, List·Memᴰ·append-cases, Memᴰ·map}
 use lib.ListN.{length, drop}
 use Rattle.laws.proofs.Tests.{equal-passes, unequal-fails}
+use Rattle.laws.proofs.Rising.{Rises, rises-member}
 use Rattle.floor.specs.Plan.{Cart, Plan}
 use Rattle.network.specs.Events.{Route, points, visits-of, routes, routes-of, route-points, route-events, places}
 use Rattle.network.specs.Bounds.{Bound, bounds}
@@ -60,24 +61,19 @@ past-own (b ∷ bs) i rest x l =
 
 -- ---- the added ones: each cart event but the first entries has one at most
 
--- numbers from e on, each above the one before
-abbrev pub Rising : ℕ → List ℕ → Type 0
-Rising e [] = Unit {0}
-Rising e (x ∷ xs) = (e ≤ x) × Rising (suc x) xs
+-- numbers above e, each above the one before
+abbrev Above : ℕ → List ℕ → Type 0
+Above = Rises (λ (x : ℕ). x)
 
-rising-from : (l : List ℕ) (d e : ℕ) → d ≤ e → Rising e l → Rising d l
-rising-from [] d e h r = tt
-rising-from (x ∷ xs) d e h r = (omega (arith, r .0), r .1)
+above-less : (l : List ℕ) (d e : ℕ) → d ≤ e → Above e l → Above d l
+above-less [] d e h r = tt
+above-less (x ∷ xs) d e h r = (omega (arith, r .0), r .1)
 
-rising-member : (l : List ℕ) (e x : ℕ) → Rising e l → List·Memᴰ x l → e ≤ x
-rising-member [] e x r m = absurd (List·Memᴰ·not-nil m)
-rising-member (y ∷ ys) e x r m =
-    ⊎-elim (λ (q : x ≡ y). omega (arith, r .0)) (λ t. let h : suc y ≤ x = rising-member ys (suc y) x (r .1) t in omega (arith, r .0)) (List·Memᴰ·cases-cons m)
-
-rising-places : {A : Type 0} (xs : List A) (e : ℕ) (rest : List ℕ) → Rising (e + length xs) rest → Rising e (places e xs ++ rest)
+-- the numbers after e of things in a row, and what is above them
+above-places : {A : Type 0} (xs : List A) (e : ℕ) (rest : List ℕ) → Above (e + length xs) rest → Above e (places (suc e) xs ++ rest)
 unfolding places
-rising-places [] e rest r = rising-from rest e (e + 0) (omega arith) r
-rising-places (x ∷ xs) e rest r = (omega arith, rising-places xs (suc e) rest (rising-from rest (suc e + length xs) (e + suc (length xs)) (omega arith) r))
+above-places [] e rest r = above-less rest e (e + 0) (omega arith) r
+above-places (x ∷ xs) e rest r = (omega arith, above-places xs (suc e) rest (above-less rest (suc e + length xs) (e + suc (length xs)) (omega arith) r))
 
 -- the events of a list of bounds' ends
 abbrev ends : List Bound → List ℕ
@@ -112,16 +108,14 @@ route-ends r ts c k = subst (λ (us : List ℕ). Shown (route-events r) us) (sym
     by [] = refl
     by (e ∷ es) = ends-all es (k .later) c
 
-rising-tail : {A : Type 0} (xs : List A) (e : ℕ) (rest : List ℕ) → Rising (e + length xs) rest → Rising e (tail (places e xs) ++ rest)
+above-tail : {A : Type 0} (xs : List A) (e : ℕ) (rest : List ℕ) → Above (e + length xs) rest → Above e (tail (places e xs) ++ rest)
 unfolding places
-rising-tail [] e rest r = rising-from rest e (e + 0) (omega arith) r
-rising-tail (x ∷ xs) e rest r =
-    rising-from (places (suc e) xs ++ rest) e (suc e) (omega arith)
-    (rising-places xs (suc e) rest (rising-from rest (suc e + length xs) (e + suc (length xs)) (omega arith) r))
+above-tail [] e rest r = above-less rest e (e + 0) (omega arith) r
+above-tail (x ∷ xs) e rest r = above-places xs e rest (above-less rest (e + length xs) (e + suc (length xs)) (omega arith) r)
 
 -- they rise from cart to cart
 added-rise : (cs : List Cart) (ps : List (List ℕ)) (j e c : ℕ) (tss : List (List ℕ)) → AllKept c (routes j e cs ps) tss
-    → Rising e (ends (by-cart (route-added c) (routes j e cs ps) tss))
+    → Above e (ends (by-cart (route-added c) (routes j e cs ps) tss))
 unfolding routes by-cart route-events route-points
 added-rise [] ps j e c tss k = tt
 added-rise (d ∷ cs) [] j e c tss k = tt
@@ -131,23 +125,23 @@ added-rise (d ∷ cs) (p ∷ ps) j e c tss k = by (e + length (points (visits-of
     r = record { number = j; cart = d; visits = visits-of p; first = e }
 
     by : (f : ℕ) (tss : List (List ℕ)) → AllKept c (r ∷ routes (suc j) f cs ps) tss
-        → ((more : List (List ℕ)) → AllKept c (routes (suc j) f cs ps) more → Rising (e + length (route-points r)) (ends (by-cart (route-added c) (routes (suc j) f cs ps) more)))
-        → Rising e (ends (by-cart (route-added c) (r ∷ routes (suc j) f cs ps) tss))
+        → ((more : List (List ℕ)) → AllKept c (routes (suc j) f cs ps) more → Above (e + length (route-points r)) (ends (by-cart (route-added c) (routes (suc j) f cs ps) more)))
+        → Above e (ends (by-cart (route-added c) (r ∷ routes (suc j) f cs ps) tss))
     by f tss (one-more {ts = ts} {tss = more} k ks) rise =
         let rest = by-cart (route-added c) (routes (suc j) f cs ps) more in
-        subst (Rising e) (sym (ends-append (route-added c r ts) rest ∙ ap (λ (l : List ℕ). l ++ ends rest) (route-ends r ts c k)))
-        (rising-tail (route-points r) e (ends rest) (rise more ks))
+        subst (Above e) (sym (ends-append (route-added c r ts) rest ∙ ap (λ (l : List ℕ). l ++ ends rest) (route-ends r ts c k)))
+        (above-tail (route-points r) e (ends rest) (rise more ks))
 
 -- ---- so a number of theirs leads to one bound
 
-added-leads : (bs : List Bound) (e : ℕ) (c : Bound) → Rising e (ends bs) → List·Memᴰ c bs → Leads (added-numbered bs) c (10_000 + c .to)
+added-leads : (bs : List Bound) (e : ℕ) (c : Bound) → Above e (ends bs) → List·Memᴰ c bs → Leads (added-numbered bs) c (10_000 + c .to)
 unfolding added-numbered
 added-leads [] e c r m = absurd (List·Memᴰ·not-nil m)
 added-leads (b ∷ bs) e c r m =
     ⊎-elim
     (λ (q : c ≡ b). subst (λ (x : Bound). Leads (added-numbered (b ∷ bs)) c (10_000 + x .to)) (sym q) (lead-here (record { number = 10_000 + b .to; bound = b }) (added-numbered bs) c q))
-    (λ t. let l : suc (b .to) ≤ c .to = rising-member (ends bs) (suc (b .to)) (c .to) (r .1) (Memᴰ·map (λ (x : Bound). x .to) t) in
-    lead-on (record { number = 10_000 + b .to; bound = b }) (added-numbered bs) c (10_000 + c .to) (λ (q : 10_000 + b .to ≡ 10_000 + c .to). omega arith) (added-leads bs (suc (b .to)) c (r .1) t))
+    (λ t. let l : b .to < c .to = rises-member (λ (x : ℕ). x) (b .to) (ends bs) (c .to) (r .1) (Memᴰ·map (λ (x : Bound). x .to) t) in
+    lead-on (record { number = 10_000 + b .to; bound = b }) (added-numbered bs) c (10_000 + c .to) (λ (q : 10_000 + b .to ≡ 10_000 + c .to). omega arith) (added-leads bs (b .to) c (r .1) t))
     (List·Memᴰ·cases-cons m)
 
 -- every bound of a plan and its book has a number that leads to it
