@@ -9,7 +9,7 @@ use mathlib.Core.Option.{some, Option·some-injective}
 use lib.ListN.{length, getD, set, length-append}
 use Rattle.floor.specs.Plan.{Plan}
 use Rattle.network.specs.Events.{Route, routes-of, route-points}
-use Rattle.schedule.proofs.Log.{Accepted, acceptable-says, replay-first}
+use Rattle.schedule.proofs.Log.{Accepted, acceptable-says, replay-first, counts}
 use Rattle.schedule.specs.Book.{Report, Book, first-book, points-of, passed-by, pass-next, replay, by-cart}
 
 -- the times of the points that the cart of a route has passed by the clock
@@ -66,10 +66,6 @@ passes {c} {t} {r} {ts} l w k =
           ⊎-elim (λ a. omega (arith, k .by-clock x a, l)) (λ a. let e : x ≡ t = List·Memᴰ·eq-of-singleton a in omega arith)
           (List·Memᴰ·append-cases ts m);
     }
-
--- how many points each cart has
-abbrev counts : List Route → List ℕ
-counts = map (λ (r : Route). length (route-points r))
 
 pass-kept : {c t : ℕ} {rs : List Route} {tss : List (List ℕ)} (i : ℕ) → c ≤ t → AllKept c rs tss → length (getD tss i []) < getD (counts rs) i 0
     → AllKept t rs (set tss i (getD tss i [] ++ (t ∷ [])))

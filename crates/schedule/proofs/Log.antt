@@ -11,7 +11,8 @@ use lib.Dec.{T, leb, ltb, leb→le, ltb→lt}
 use lib.ListN.{length, getD, set, length-append, length-map, length-set}
 use mir.Facts.{and-yes}
 use Rattle.floor.specs.Plan.{Plan}
-use Rattle.network.specs.Events.{Route, routes-of, route-points, Event, finish, passing, events, event-count}
+use Rattle.network.specs.Events.{Route, routes-of, route-points, event-count}
+use Rattle.network.proofs.Routes.{event-count-is}
 use Rattle.schedule.specs.Book.{Report, Book, first-book, is-there, points-of, passed-by, has-next, in-time, acceptable, pass-next, replay}
 
 -- ---- one report
@@ -116,7 +117,7 @@ left-less (n ∷ ns) (ts ∷ tss) (suc i) t e h =
     omega (arith, more)
 
 -- how many points each route has
-abbrev counts : List Route → List ℕ
+abbrev pub counts : List Route → List ℕ
 counts rs = map (λ (r : Route). length (route-points r)) rs
 
 -- each report of a log passes a point
@@ -148,21 +149,11 @@ left-at-most [] tss = omega arith
 left-at-most (n ∷ ns) [] = omega arith
 left-at-most (n ∷ ns) (ts ∷ tss) = omega (arith, left-at-most ns tss)
 
--- the points' events are as many as the points
-points-count : (rs : List Route) → length (flatMap (λ (r : Route). map (passing (r .number)) (route-points r)) rs) ≡ all-points (counts rs)
+-- of all routes
+points-count : (rs : List Route) → length (flatMap route-points rs) ≡ all-points (counts rs)
 unfolding flatMap
 points-count [] = refl
-points-count (r ∷ rs) =
-    let these : List Event = map (passing (r .number)) (route-points r) in
-    let those : List Event = flatMap (λ (x : Route). map (passing (x .number)) (route-points x)) rs in
-    omega (arith, length-append these those, length-map (route-points r) (passing (r .number)), points-count rs)
-
--- the events are the points, the start and the finish
-all-events : (p : Plan) → event-count p ≡ all-points (counts (routes-of p)) + 2
-unfolding event-count events
-all-events p =
-    let those : List Event = flatMap (λ (r : Route). map (passing (r .number)) (route-points r)) (routes-of p) in
-    omega (arith, length-append those (finish ∷ []), points-count (routes-of p))
+points-count (r ∷ rs) = omega (arith, length-append (route-points r) (flatMap route-points rs), points-count rs)
 
 -- a log that is replayed from the first book has no more reports than the plan has points
 pub log-short : (p : Plan) (b : Book) (log : List Report) → replay p (first-book p) log ≡ some b → length log + 2 ≤ event-count p
@@ -170,4 +161,4 @@ unfolding first-book
 log-short p b log e =
     let firsts : List (List ℕ) = map (λ (r : Route). 0 ∷ []) (routes-of p) in
     let most : length log ≤ left (counts (routes-of p)) firsts = log-left p (first-book p) b log (length-map (routes-of p) (λ (r : Route). 0 ∷ [])) e in
-    omega (arith, most, left-at-most (counts (routes-of p)) firsts, all-events p)
+    omega (arith, most, left-at-most (counts (routes-of p)) firsts, points-count (routes-of p), event-count-is p)
