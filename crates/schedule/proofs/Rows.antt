@@ -9,7 +9,7 @@ use Rattle.network.proofs.Rows.{bound}
 use Rattle.schedule.specs.Book.{Report, _at_, Book, first-book, has-next, in-time, book-after, replay, passed-points, points-to-pass}
 use Rattle.schedule.specs.Added.{Numbered, added-bounds, numbered-bounds}
 use Rattle.schedule.specs.Timetable.{timetable}
-use Rattle.schedule.specs.Chain.{Direction, onward, back, Item, is-chain}
+use Rattle.schedule.specs.Chain.{Direction, onward, back, direction-number, Item, is-chain}
 use Rattle.schedule.specs.Open.{open-schedule}
 
 -- "every road 1,000,000 long, margin 250,000"
@@ -124,3 +124,8 @@ chains-follow : map (is-chain one (book one ((1 at 500) ∷ [])))
     ≡ true ∷ true ∷ false ∷ false ∷ false ∷ false ∷ false ∷ false ∷ false ∷ false ∷ []
 unfolding open-schedule one road book item
 chains-follow = refl
+
+-- "0 goes from u to v …, 1 goes back"
+directions-follow : direction-number onward ∷ direction-number back ∷ [] ≡ 0 ∷ 1 ∷ []
+unfolding open-schedule
+directions-follow = refl
