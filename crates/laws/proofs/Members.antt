@@ -4,7 +4,8 @@ use native.Mathlib.Omega.{arith}
 use mathlib.Core.Path.{_≡_, refl, sym, subst}
 use mathlib.Core.Logic.{⊎-elim}
 use mathlib.Core.List.{List, [], _∷_, tail, flatMap, List·Memᴰ, List·Memᴰ·head, List·Memᴰ·tail, List·Memᴰ·not-nil, List·Memᴰ·cases-cons, List·Memᴰ·append-cases, Memᴰ·append-left, Memᴰ·append-right}
-use lib.ListN.{length, getD, drop}
+use mathlib.Core.Option.{none, some, Option·none-ne-some}
+use lib.ListN.{length, getD, drop, replicate}
 
 -- ---- lists put together of lists
 
@@ -50,6 +51,12 @@ pub any-default : {A : Type 0} (l : List A) (i : ℕ) (d e : A) → i < length l
 any-default [] i d e h = absurd (omega arith)
 any-default (x ∷ xs) zero d e h = refl
 any-default (x ∷ xs) (suc i) d e h = any-default xs i d e (omega arith)
+
+-- nothing stands in a list of none
+pub none-there : {A : Type 0} (n i : ℕ) (x : A) → getD (replicate n none) i none ≡ some x → ⊥
+none-there zero i x e = Option·none-ne-some _ e
+none-there (suc n) zero x e = Option·none-ne-some _ e
+none-there (suc n) (suc i) x e = none-there n i x e
 
 -- ---- a list without its first
 

@@ -81,7 +81,7 @@ first-bound p r m = start-there p _ (start-in (routes-of p) r m)
 -- ---- the points that event-of finds
 
 -- kinds that the test finds the same are the same
-same-kind-is : (k l : Kind) → T (same-kind k l) → l ≡ k
+pub same-kind-is : (k l : Kind) → T (same-kind k l) → l ≡ k
 unfolding same-kind
 same-kind-is approach approach t = refl
 same-kind-is approach entry t = absurd t

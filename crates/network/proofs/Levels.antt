@@ -4,24 +4,21 @@ use native.Mathlib.Omega.{arith}
 use mathlib.Core.Path.{_≡_, refl, ap, ap₂, sym, _∙_, subst}
 use mathlib.Core.Logic.{⊎-elim}
 use mathlib.Core.List.{List, [], _∷_, List·Memᴰ, List·Memᴰ·head, List·Memᴰ·tail, List·Memᴰ·not-nil, List·Memᴰ·cases-cons}
-use mathlib.Core.Bool.{Bool, true, false, _&&_, cond}
-use mathlib.Core.Option.{some, Option·none-ne-some, Option·some-injective}
-use lib.Dec.{T, eqb, ltb, ltb→lt}
+use mathlib.Core.Option.{some}
 use lib.ListN.{length, getD}
-use mir.Facts.{and-yes}
 use Rattle.floor.specs.Plan.{Plan}
 use Rattle.floor.specs.Paths.{steps}
 use Rattle.floor.specs.Refusal.{accepted}
 use Rattle.floor.specs.Tables.{Tables}
 use Rattle.floor.proofs.Accepted.{Sound}
 use Rattle.network.specs.Events.{Visit, Kind, approach, leave, Point, point, points-after, points, Route, routes-of, route-points, start, passing, events, event-count, finish-event, last-event, event-of}
-use Rattle.network.specs.Bounds.{Bound, no-earlier, first-later, bounds}
+use Rattle.network.specs.Bounds.{Bound, no-earlier, bounds}
 use Rattle.network.specs.Judge.{judge}
 use Rattle.network.specs.Levels.{kind-level, point-level, level, level-of}
 use Rattle.network.proofs.Judged.{judged-sound}
 use Rattle.laws.proofs.Members.{at-place, any-default}
 use Rattle.network.proofs.Routes.{origin}
-use Rattle.network.proofs.Sorts.{Order, Sort, starts, travels, orders, finishes, sort-of}
+use Rattle.network.proofs.Sorts.{first-later-is, Order, Sort, starts, travels, orders, finishes, sort-of}
 use Rattle.network.proofs.Ends.{route-within, some-point, event-found, along-ends}
 use Rattle.laws.proofs.Rising.{rising-apart}
 use Rattle.network.proofs.Visits.{route-rises, visit-there}
@@ -120,24 +117,11 @@ event-level p k r x u m e =
     let (i, u-is, l, kind, step) = event-found k r x u no-point e in
     ap (level-of p) u-is ∙ point-level-at p r m i no-point l ∙ ap₂ (λ (s : ℕ) (c : Kind). 3 * s + kind-level c) step kind
 
--- the first later visit is later
-pub later-step : (x : Visit) (ys : List Visit) (z : Visit) → first-later x ys ≡ some z → x .step < z .step
-unfolding first-later
-later-step x [] z e = absurd (Option·none-ne-some _ e)
-later-step x (y ∷ ys) z e = by (ltb (x .step) (y .step) && eqb (x .cell) (y .cell)) refl e (later-step x ys z)
-  where
-    by : (b : Bool) → (ltb (x .step) (y .step) && eqb (x .cell) (y .cell)) ≡ b → cond b (some y) (first-later x ys) ≡ some z
-        → (first-later x ys ≡ some z → x .step < z .step) → x .step < z .step
-    by true b e rest =
-        let (later, _) = and-yes (ltb (x .step) (y .step)) (eqb (x .cell) (y .cell)) (subst T (sym b) tt) in
-        subst (λ (v : Visit). x .step < v .step) (Option·some-injective _ _ e) (ltb→lt _ _ later)
-    by false b e rest = rest e
-
 -- from a leave point to the approach point of a visit that begins later
 order-up : (p : Plan) (b : Bound) (o : Order (routes-of p) b) → level-of p (o .behind) < level-of p (o .before)
 unfolding kind-level
 order-up p b o =
-    let l : o .x .step < o .y .step = later-step (o .x) (o .k .visits) (o .y) (o .later) in
+    let l : o .x .step < o .y .step = first-later-is (o .x) (o .k .visits) (o .y) (o .later) .later in
     let low : _ = event-level p leave (o .j) (o .x) (o .behind) (o .j-there) (o .leaves) in
     let high : _ = event-level p approach (o .k) (o .y) (o .before) (o .k-there) (o .approaches) in
     omega (arith, l, low, high)

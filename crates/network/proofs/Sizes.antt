@@ -66,8 +66,8 @@ move-short roads h x y = by (road-between roads (x .cell) (y .cell)) refl
 -- ---- the parts of moves
 
 -- a part is no longer than 10^8, and its slowest speed is the cart's
-abbrev Fits : Cart → Part → Type 0
-Fits c part = (part .length ≤ 100_000_000) × (part .slowest ≡ c .slowest)
+abbrev ShortPart : Cart → Part → Type 0
+ShortPart c part = (part .length ≤ 100_000_000) × (part .slowest ≡ c .slowest)
 
 -- no part is longer than its road or its margin
 lengths-short : (d : Road) → Short d → (l : ℕ) → List·Memᴰ l (part-lengths d) → l ≤ 100_000_000
@@ -80,15 +80,15 @@ lengths-short d s l m =
     (List·Memᴰ·cases-cons m)
 
 -- the parts of a cart's move along a road
-parts-fit : (c : Cart) (d : Road) → Short d → (part : Part) → List·Memᴰ part (parts c d) → Fits c part
+parts-fit : (c : Cart) (d : Road) → Short d → (part : Part) → List·Memᴰ part (parts c d) → ShortPart c part
 unfolding parts
 parts-fit c d s part m =
     let (l, there, e) = Memᴰ·of-map (λ (l : ℕ). record { length = l; slowest = c .slowest }) (part-lengths d) m in
-    subst (Fits c) e (lengths-short d s l there, refl)
+    subst (ShortPart c) e (lengths-short d s l there, refl)
 
 -- the parts of all moves after a visit
 parts-after-fit : (roads : List Road) → ((d : Road) → List·Memᴰ d roads → SoundRoad d) → (c : Cart) (x : Visit) (ys : List Visit) (part : Part)
-    → List·Memᴰ part (parts-after roads c x ys) → Fits c part
+    → List·Memᴰ part (parts-after roads c x ys) → ShortPart c part
 unfolding parts-after
 parts-after-fit roads h c x [] part m = absurd (List·Memᴰ·not-nil m)
 parts-after-fit roads h c x (y ∷ ys) part m =
@@ -99,7 +99,7 @@ parts-after-fit roads h c x (y ∷ ys) part m =
 
 -- the parts of all moves
 route-parts-fit : (roads : List Road) → ((d : Road) → List·Memᴰ d roads → SoundRoad d) → (c : Cart) (vs : List Visit) (part : Part)
-    → List·Memᴰ part (route-parts roads c vs) → Fits c part
+    → List·Memᴰ part (route-parts roads c vs) → ShortPart c part
 unfolding route-parts
 route-parts-fit roads h c [] part m = absurd (List·Memᴰ·not-nil m)
 route-parts-fit roads h c (x ∷ xs) part m = parts-after-fit roads h c x xs part m
@@ -111,7 +111,7 @@ abbrev pub Small : Bound → Type 0
 Small b = (b .lo ≤ 100_000_000) × ((h : ℕ) → b .hi ≡ some h → h ≤ 100_000_000)
 
 -- a slowest speed is at least 1,000
-most-time-small : (c : Cart) → SoundCart c → (part : Part) → Fits c part → (h : ℕ) → most-time part ≡ some h → h ≤ 100_000_000
+most-time-small : (c : Cart) → SoundCart c → (part : Part) → ShortPart c part → (h : ℕ) → most-time part ≡ some h → h ≤ 100_000_000
 unfolding most-time
 most-time-small c s part f h e = by (part .slowest) refl e
   where
@@ -122,12 +122,12 @@ most-time-small c s part f h e = by (part .slowest) refl e
         omega (arith, Option·some-injective _ _ e, div-most (part .length) v slow, f .0)
 
 -- the bounds of a cart's parts
-part-bounds-small : (c : Cart) → SoundCart c → (e : ℕ) (ps : List Part) → ((part : Part) → List·Memᴰ part ps → Fits c part)
+part-bounds-small : (c : Cart) → SoundCart c → (e : ℕ) (ps : List Part) → ((part : Part) → List·Memᴰ part ps → ShortPart c part)
     → (b : Bound) → List·Memᴰ b (part-bounds c e ps) → Small b
 unfolding part-bounds least-time
 part-bounds-small c s e [] f b m = absurd (List·Memᴰ·not-nil m)
 part-bounds-small c s e (part ∷ ps) f b m =
-    let here : Fits c part = f part (List·Memᴰ·head refl) in
+    let here : ShortPart c part = f part (List·Memᴰ·head refl) in
     ⊎-elim
     (λ q. subst Small (sym q) (omega (arith, div-up-most (part .length) (c .fastest) (s .fast), here .0), most-time-small c s part here))
     (part-bounds-small c s (suc e) ps (λ x n. f x (List·Memᴰ·tail n)) b)

@@ -1,11 +1,12 @@
 -- Of what sort each bound of a plan is: a start, travel, order or finish bound, and of which routes. Assumes nothing.
-use Prim.Native.Nat.{ℕ}
-use mathlib.Core.Path.{_≡_, refl, sym}
+use Prim.Native.Nat.{ℕ, _<_}
+use mathlib.Core.Path.{_≡_, refl, sym, subst}
 use mathlib.Core.Logic.{_≢_, ⊎-elim}
-use mathlib.Core.Bool.{Bool, true, false, cond}
-use mathlib.Core.List.{List, [], flatMap, List·Memᴰ, List·Memᴰ·not-nil, List·Memᴰ·append-cases, List·Memᴰ·eq-of-singleton, Memᴰ·append-left, Memᴰ·append-right, Memᴰ·map, Memᴰ·of-map}
-use mathlib.Core.Option.{Option, none, some}
-use lib.Dec.{eqb}
+use mathlib.Core.Bool.{Bool, true, false, _&&_, cond}
+use mathlib.Core.List.{List, [], _∷_, flatMap, List·Memᴰ, List·Memᴰ·head, List·Memᴰ·tail, List·Memᴰ·not-nil, List·Memᴰ·append-cases, List·Memᴰ·eq-of-singleton, Memᴰ·append-left, Memᴰ·append-right, Memᴰ·map, Memᴰ·of-map}
+use mathlib.Core.Option.{Option, none, some, Option·none-ne-some, Option·some-injective}
+use lib.Dec.{T, ltb, eqb, eqb→eq, ltb→lt}
+use mir.Facts.{and-yes}
 use Rattle.floor.specs.Plan.{Road, Plan}
 use Rattle.network.specs.Events.{Visit, approach, leave, Route, routes-of, event-of, last-event, finish-event}
 use Rattle.network.specs.Bounds.{Bound, no-earlier, start-bounds, route-parts, part-bounds, travel-bounds, first-later, between, order-bound, order-bounds-to, order-bounds, finish-bounds, bounds}
@@ -19,6 +20,27 @@ start-bound r = record { from = 0; to = r .first; lo = 0; hi = some 0 }
 -- the travel bounds of one route
 abbrev pub along : List Road → Route → List Bound
 along roads r = part-bounds (r .cart) (r .first) (route-parts roads (r .cart) (r .visits))
+
+-- the first later visit to x's cell is a visit, to that cell, and later
+pub record FirstLater (x : Visit) (ys : List Visit) (z : Visit) : Type 0 where
+  pub visit : List·Memᴰ z ys
+  pub same-cell : x .cell ≡ z .cell
+  pub later : x .step < z .step
+
+pub first-later-is : (x : Visit) (ys : List Visit) (z : Visit) → first-later x ys ≡ some z → FirstLater x ys z
+unfolding first-later
+first-later-is x [] z e = absurd (Option·none-ne-some _ e)
+first-later-is x (y ∷ ys) z e = by (ltb (x .step) (y .step) && eqb (x .cell) (y .cell)) refl e (first-later-is x ys z)
+  where
+    by : (b : Bool) → (ltb (x .step) (y .step) && eqb (x .cell) (y .cell)) ≡ b → cond b (some y) (first-later x ys) ≡ some z
+        → (first-later x ys ≡ some z → FirstLater x ys z) → FirstLater x (y ∷ ys) z
+    by true b e rest =
+        let (later, same) = and-yes (ltb (x .step) (y .step)) (eqb (x .cell) (y .cell)) (subst T (sym b) tt) in
+        subst (FirstLater x (y ∷ ys)) (Option·some-injective _ _ e)
+        (record { visit = List·Memᴰ·head refl; same-cell = eqb→eq (x .cell) (y .cell) same; later = ltb→lt (x .step) (y .step) later })
+    by false b e rest =
+        let f : FirstLater x ys z = rest e in
+        record { visit = List·Memᴰ·tail (f .visit); same-cell = f .same-cell; later = f .later }
 
 -- an order bound: from the leave point of j's visit x to the approach point of k's first later visit y to that cell
 pub record Order (rs : List Route) (b : Bound) : Type 0 where

@@ -19,7 +19,7 @@ use Rattle.floor.proofs.Accepted.{Sound}
 use Rattle.network.specs.Events.{Visit, visits-of, Kind, approach, entry, leave, Point, point, points-after, points, Route, routes-of, route-points, same-kind, find-point, event-of}
 use Rattle.network.specs.Levels.{kind-level, point-level}
 use Rattle.network.proofs.Routes.{Origin, origin, path-there}
-use Rattle.network.proofs.Ends.{event-found}
+use Rattle.network.proofs.Ends.{same-kind-is, event-found}
 use Rattle.network.proofs.Visits.{step-of, route-rises, visit-there, last-stays}
 
 -- ---- the points of a route go up
@@ -45,24 +45,12 @@ kind-most leave = omega arith
 
 -- ---- where a point is found
 
--- a kind is itself, and no other
+-- a kind is the same as itself
 same-kind-self : (k : Kind) → T (same-kind k k)
 unfolding same-kind
 same-kind-self approach = tt
 same-kind-self entry = tt
 same-kind-self leave = tt
-
-same-kind-level : (k l : Kind) → T (same-kind k l) → kind-level k ≡ kind-level l
-unfolding same-kind kind-level
-same-kind-level approach approach t = refl
-same-kind-level approach entry t = absurd t
-same-kind-level approach leave t = absurd t
-same-kind-level entry approach t = absurd t
-same-kind-level entry entry t = refl
-same-kind-level entry leave t = absurd t
-same-kind-level leave approach t = absurd t
-same-kind-level leave entry t = absurd t
-same-kind-level leave leave t = refl
 
 -- each point of a list that rises is found at its place: those before it are of another level, so of another kind or step
 pub found-at-place : (ps : List Point) (e i : ℕ) (d : Point) → Rising point-level ps → i < length ps
@@ -85,7 +73,8 @@ found-at-place (p ∷ ps) e (suc i) d h l =
         let (k, e) = and-yes (same-kind (q .kind) (p .kind)) (eqb (q .step) (p .step)) t in
         let same-step : q .step ≡ p .step = eqb→eq (q .step) (p .step) e in
         let lower : 3 * p .step + kind-level (p .kind) < 3 * q .step + kind-level (q .kind) = rises-first point-level p ps i d h (omega arith) in
-        omega (arith, same-step, same-kind-level (q .kind) (p .kind) k, lower)
+        let same-level : kind-level (p .kind) ≡ kind-level (q .kind) = ap kind-level (same-kind-is (q .kind) (p .kind) k) in
+        omega (arith, same-step, same-level, lower)
 
 -- three points for each move: where they stand
 points-after-length : (x : Visit) (xs : List Visit) → length (points-after x xs) ≡ 3 * length xs

@@ -9,7 +9,7 @@ use mathlib.Core.Option.{some, Option·some-injective}
 use lib.ListN.{length, getD, set, length-append}
 use Rattle.floor.specs.Plan.{Plan}
 use Rattle.network.specs.Events.{Route, routes-of, route-points}
-use Rattle.schedule.proofs.Log.{Accepted, acceptable-says, replay-first, counts}
+use Rattle.schedule.proofs.Log.{Acceptable, acceptable-says, replay-first, counts}
 use Rattle.schedule.specs.Book.{Report, Book, first-book, points-of, passed-by, pass-next, replay, by-cart}
 
 -- the times of the points that the cart of a route has passed by the clock
@@ -73,7 +73,7 @@ pass-kept i l no-cart w = absurd (omega arith)
 pass-kept zero l (one-more k ks) w = one-more (passes l w k) (all-later l ks)
 pass-kept (suc i) l (one-more k ks) w = one-more (later-clock l k) (pass-kept i l ks w)
 
-next-kept : (p : Plan) (b : Book) (r : Report) → Accepted p b r → KeptBook p b → KeptBook p (pass-next b r)
+next-kept : (p : Plan) (b : Book) (r : Report) → Acceptable p b r → KeptBook p b → KeptBook p (pass-next b r)
 unfolding points-of passed-by pass-next
 next-kept p b r a k = record { carts = pass-kept (r .cart - 1) (a .clock) (k .carts) (a .point); in-range = a .limit }
 

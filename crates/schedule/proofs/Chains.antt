@@ -135,35 +135,35 @@ cycle-chain p b kept few n c =
 -- ---- a chain excludes times that fit
 
 -- the leg does not let its end come later
-abbrev Holds : Times → Leg → Type 0
-Holds t l = t (l .ends) ≤ℤ (t (l .begins) +ℤ l .costs)
+abbrev LegHolds : Times → Leg → Type 0
+LegHolds t l = t (l .ends) ≤ℤ (t (l .begins) +ℤ l .costs)
 
-leg-holds : (t : Times) (c : Bound) → Meets t c → (d : Direction) (l : Leg) → leg c d ≡ some l → Holds t l
+leg-holds : (t : Times) (c : Bound) → Meets t c → (d : Direction) (l : Leg) → leg c d ≡ some l → LegHolds t l
 unfolding leg onward-leg
 leg-holds t c m onward l e = by (c .hi) refl e
   where
-    by : (hi : Option ℕ) → c .hi ≡ hi → onward-leg c hi ≡ some l → Holds t l
+    by : (hi : Option ℕ) → c .hi ≡ hi → onward-leg c hi ≡ some l → LegHolds t l
     by none q e = absurd (Option·none-ne-some _ e)
     by (some h) q e =
         let u = m .upper h q in
-        subst (Holds t) (Option·some-injective _ _ e) (omega (signed, u, sum (t (c .from)) (pos h), difference (t (c .to)) (t (c .from))))
+        subst (LegHolds t) (Option·some-injective _ _ e) (omega (signed, u, sum (t (c .from)) (pos h), difference (t (c .to)) (t (c .from))))
 leg-holds t c m back l e =
     let u = m .lower in
-    subst (Holds t) (Option·some-injective _ _ e)
+    subst (LegHolds t) (Option·some-injective _ _ e)
     (omega (signed, u, sum (t (c .to)) (negℤ (pos (c .lo))), neg-up (pos (c .lo)), neg-dn (pos (c .lo)), difference (t (c .to)) (t (c .from))))
 
 -- along linked legs, each of which holds, the end comes no later than the beginning and the costs
-linked-holds : (t : Times) (u e : ℕ) (ls : List Leg) → ((l : Leg) → List·Memᴰ l ls → Holds t l) → T (linked u e ls) → t e ≤ℤ (t u +ℤ cost ls)
+linked-holds : (t : Times) (u e : ℕ) (ls : List Leg) → ((l : Leg) → List·Memᴰ l ls → LegHolds t l) → T (linked u e ls) → t e ≤ℤ (t u +ℤ cost ls)
 unfolding linked cost
 linked-holds t u e [] h k = let q : u ≡ e = eqb→eq u e k in let r : t u ≡ t e = ap t q in omega (signed, r, sum (t u) (pos 0))
 linked-holds t u e (l ∷ ls) h k =
     let (q, more) = and-yes (eqb u (l .begins)) (linked (l .ends) e ls) k in
     let r : t u ≡ t (l .begins) = ap t (eqb→eq u (l .begins) q) in
-    let one : Holds t l = h l (List·Memᴰ·head refl) in
+    let one : LegHolds t l = h l (List·Memᴰ·head refl) in
     let rest : t e ≤ℤ (t (l .ends) +ℤ cost ls) = linked-holds t (l .ends) e ls (λ x m. h x (List·Memᴰ·tail m)) more in
     omega (signed, r, one, rest, sum (t (l .begins)) (l .costs), sum (t (l .ends)) (cost ls), sum (l .costs) (cost ls), sum (t u) (l .costs +ℤ cost ls))
 
-closed-excludes : (t : Times) (o : Option (List Leg)) → ((ls : List Leg) → o ≡ some ls → (l : Leg) → List·Memᴰ l ls → Holds t l) → T (closed-below-0 o) → ⊥
+closed-excludes : (t : Times) (o : Option (List Leg)) → ((ls : List Leg) → o ≡ some ls → (l : Leg) → List·Memᴰ l ls → LegHolds t l) → T (closed-below-0 o) → ⊥
 unfolding closed-below-0 linked cost
 closed-excludes t none h k = k
 closed-excludes t (some []) h k = k

@@ -18,7 +18,7 @@ use Rattle.schedule.specs.Book.{Report, Book, first-book, is-there, poin
 -- ---- one report
 
 -- what an accepted report says: its cart is there and has a point to pass, its time is not below the clock and not over 10^12
-pub record Accepted (p : Plan) (b : Book) (r : Report) : Type 0 where
+pub record Acceptable (p : Plan) (b : Book) (r : Report) : Type 0 where
   pub from-1 : 1 ≤ r .cart
   pub there : r .cart ≤ length (p .carts)
   pub point : length (passed-by b (r .cart)) < points-of p (r .cart)
@@ -26,7 +26,7 @@ pub record Accepted (p : Plan) (b : Book) (r : Report) : Type 0 where
   pub limit : r .time ≤ 1_000_000_000_000
 
 -- it is what the test says
-pub acceptable-says : (p : Plan) (b : Book) (r : Report) → acceptable p b r ≡ true → Accepted p b r
+pub acceptable-says : (p : Plan) (b : Book) (r : Report) → acceptable p b r ≡ true → Acceptable p b r
 unfolding acceptable has-next in-time is-there
 acceptable-says p b r e =
     let is : Bool = leb 1 (r .cart) && leb (r .cart) (length (p .carts)) in
@@ -94,7 +94,7 @@ pub log-carts-times : (p : Plan) (b0 b : Book) (log : List Report) → replay p 
 log-carts-times p b0 b [] e r m = absurd (List·Memᴰ·not-nil m)
 log-carts-times p b0 b (x ∷ xs) e r m =
     let (q, rest) = replay-first p b0 b x xs e in
-    let a : Accepted p b0 x = acceptable-says p b0 x q in
+    let a : Acceptable p b0 x = acceptable-says p b0 x q in
     ⊎-elim (λ (h : r ≡ x). subst (λ (y : Report). (1 ≤ y .cart) × (y .cart ≤ length (p .carts)) × (y .time ≤ 1_000_000_000_000)) (sym h) (a .from-1, a .there, a .limit))
     (log-carts-times p (pass-next b0 x) b xs rest r) (List·Memᴰ·cases-cons m)
 
@@ -127,7 +127,7 @@ unfolding pass-next points-of passed-by
 log-left p b0 b [] s e = omega arith
 log-left p b0 b (r ∷ rs) s e =
     let (q, rest) = replay-first p b0 b r rs e in
-    let a : Accepted p b0 r = acceptable-says p b0 r q in
+    let a : Acceptable p b0 r = acceptable-says p b0 r q in
     let next : List ℕ = getD (b0 .passed) (r .cart - 1) [] ++ (r .time ∷ []) in
     let wide : length (b0 .passed) ≡ length (counts (routes-of p)) = s ∙ sym (length-map (routes-of p) (λ (x : Route). length (route-points x))) in
     let less : left (counts (routes-of p)) (b0 .passed) ≡ suc (left (counts (routes-of p)) (set (b0 .passed) (r .cart - 1) next)) =

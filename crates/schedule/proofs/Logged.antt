@@ -14,19 +14,19 @@ use Rattle.laws.proofs.Members.{to-flat, of-flat, of-drop}
 use Rattle.floor.specs.Refusal.{accepted}
 use Rattle.floor.specs.Plan.{Plan}
 use Rattle.floor.specs.Tables.{Tables}
-use Rattle.network.specs.Events.{Visit, points, Route, routes-of, route-points, route-events, event-count}
+use Rattle.network.specs.Events.{Route, routes-of, route-events, event-count}
 use Rattle.network.specs.Bounds.{Bound, bounds}
 use Rattle.network.specs.Judge.{judge}
 use Rattle.network.proofs.Judged.{judged-sound}
 use Rattle.network.proofs.Routes.{event-count-is}
 use Rattle.network.proofs.Sizes.{bound-sizes}
-use Rattle.network.proofs.Ends.{some-visit, route-first, bounds-between, entered}
+use Rattle.network.proofs.Ends.{some-point, route-first, bounds-between, entered}
 use Rattle.walks.specs.Walks.{Arc, Walk, stay, go}
 use Rattle.walks.specs.Solutions.{Between}
 use Rattle.schedule.specs.Book.{Report, Book, Passed, passed-at, first-book, replay, route-passed, route-to-pass, passed-points, points-to-pass}
 use Rattle.schedule.specs.Added.{reported-bound, clock-bound, added-bounds, all-bounds}
 use Rattle.schedule.specs.Timetable.{forward, backward, ways, arcs}
-use Rattle.schedule.proofs.Books.{KeptBook, HasPoints, AtCart, at-cart, book-kept}
+use Rattle.schedule.proofs.Books.{KeptBook, AtCart, at-cart, book-kept}
 use Rattle.schedule.proofs.Solutions.{added-cases}
 
 pub record Logged (p : Plan) (b : Book) : Type 0 where
@@ -34,13 +34,6 @@ pub record Logged (p : Plan) (b : Book) : Type 0 where
   pub of-tables : judge tables ≡ accepted p
   pub log : List Report
   pub replayed : replay p (first-book p) log ≡ some b
-
--- every route of an accepted plan has a point
-has-points : (ts : Tables) (p : Plan) → judge ts ≡ accepted p → HasPoints (routes-of p)
-unfolding route-points points
-has-points ts p e r m =
-    let (x, xs, q) = some-visit p (judged-sound ts p e) r m in
-    subst (λ (vs : List Visit). 1 ≤ length (points vs)) (sym q) (omega arith)
 
 -- ---- where the points of a cart lie
 
@@ -63,7 +56,7 @@ pub record AddedBound (p : Plan) (c : Bound) : Type 0 where
 
 module _ (p : Plan) (b : Book) (l : Logged p b) where
   pub logged-kept : KeptBook p b
-  logged-kept = book-kept p (l .log) b (has-points (l .tables) p (l .of-tables)) (l .replayed)
+  logged-kept = book-kept p (l .log) b (some-point p (judged-sound (l .tables) p (l .of-tables))) (l .replayed)
 
   pub some-event : 0 < event-count p
   some-event = omega (arith, event-count-is p)

@@ -1,6 +1,6 @@
 -- Values that the certificate's checks pass are the greatest sums of the weights: 8,192 times the greatest sum over walks, less the least number of arcs
 -- of a walk that has it; and the number of passes is the greatest of those numbers. Assumes nothing.
-use Prim.Native.Nat.{ℕ, zero, suc, _+_, _*_, _-_, _≤_, _<_}
+use Prim.Native.Nat.{ℕ, zero, suc, _+_, _-_, _≤_, _<_}
 use native.Mathlib.Decide.{ℕ-discrete, decLt}
 use native.Mathlib.Omega.{arith}
 use mathlib.Core.Path.{_≡_, refl, ap, sym, _∙_, subst}
@@ -8,15 +8,15 @@ use mathlib.Core.Logic.{_≢_, by-cases}
 use mathlib.Core.List.{List, map, List·Memᴰ, Memᴰ·map, Memᴰ·of-map}
 use mathlib.Core.Option.{Option, none, some}
 use lib.ListN.{getD}
-use lib.IntN.{ℤ, pos, negsuc, _+ℤ_, _-ℤ_, _*ℤ_}
+use lib.IntN.{ℤ, pos, _+ℤ_, _-ℤ_, _*ℤ_}
 use lib.Signed.{_≤ℤ_}
 use Rattle.walks.specs.Walks.{Arc, Walk, stay, go, WalkWithin}
 use Rattle.walks.specs.Passes.{Sums, sums, Settled, settled}
-use Rattle.walks.specs.Parents.{times}
+use Rattle.walks.specs.Parents.{repeated}
 use Rattle.walks.specs.Solutions.{Solves, Between}
 use Rattle.walks.specs.Certificate.{scale, weighted, Tight, Certificate}
 use Rattle.walks.proofs.Search.{FirstBelow, found, nowhere, first, Twice, pigeon}
-use Rattle.walks.proofs.Orbit.{times-add, times-below}
+use Rattle.walks.proofs.Orbit.{repeated-add, repeated-below}
 use Rattle.walks.proofs.Greatest.{AtLeast, none-greater}
 use Rattle.walks.proofs.PassNumber.{same-everywhere}
 use Rattle.walks.proofs.Settling.{ends-below, changed-before, settled-after, settled-walk}
@@ -128,14 +128,14 @@ module _ (arcs : List Arc) where
         by (no h) = let (t, e) = step-is u h l in subst (λ (z : ℕ). z < n) (sym e) (between (t .arc) (t .of-arcs) .0)
 
     -- j steps back that do not begin at the start: the values differ by 8,192 times the sum of their arcs, less j
-    climb : (j u : ℕ) → u < n → ((i : ℕ) → i < j → times step i u ≢ 0) → (w : ℤ) × ((val u +ℤ pos j) ≡ (val (times step j u) +ℤ (pos scale *ℤ w)))
-    unfolding times weighted
+    climb : (j u : ℕ) → u < n → ((i : ℕ) → i < j → repeated step i u ≢ 0) → (w : ℤ) × ((val u +ℤ pos j) ≡ (val (repeated step j u) +ℤ (pos scale *ℤ w)))
+    unfolding repeated weighted
     climb zero u l h = (pos 0, refl)
     climb (suc j) u l h =
         let (t, e) = step-is u (h 0 (omega arith)) l in
         let (w, q) = climb j (step u) (step-below u l) (λ i b. h (suc i) (omega arith)) in
         let a : ℤ = t .arc .adds in
-        let y : ℕ = times step j (step u) in
+        let y : ℕ = repeated step j (step u) in
         let d : ℤ = (pos scale *ℤ a) -ℤ pos 1 in
         let f : val u ≡ val (step u) +ℤ d = t .exact ∙ ap (λ (z : ℕ). val z +ℤ d) (sym e) in (
           w +ℤ a,
@@ -157,9 +157,9 @@ module _ (arcs : List Arc) where
         )
 
     -- where they end at the start they are a walk
-    reach : (j u : ℕ) → u < n → ((i : ℕ) → i < j → times step i u ≢ 0) → times step j u ≡ 0
+    reach : (j u : ℕ) → u < n → ((i : ℕ) → i < j → repeated step i u ≢ 0) → repeated step j u ≡ 0
         → (w : ℤ) × Walk arcs j u w × ((val u +ℤ pos j) ≡ (pos scale *ℤ w))
-    unfolding times
+    unfolding repeated
     reach zero u l h z =
         let o : val u ≡ pos 0 = ap val z ∙ c .zeroed in
         (pos 0, subst (λ (y : ℕ). Walk arcs 0 y (pos 0)) (sym z) stay, ap (λ (y : ℤ). y +ℤ pos 0) o)
@@ -174,25 +174,25 @@ module _ (arcs : List Arc) where
         )
 
     -- they cannot come back to an event: 8,192 times a sum is not a number of arcs from 1 to n
-    no-return : (v : ℕ) → v < n → ((i : ℕ) → i < n → times step i v ≢ 0) → Twice (λ j. times step j v) n → ⊥
+    no-return : (v : ℕ) → v < n → ((i : ℕ) → i < n → repeated step i v ≢ 0) → Twice (λ j. repeated step j v) n → ⊥
     no-return v l h t =
-        let u : ℕ = times step (t .low) v in
+        let u : ℕ = repeated step (t .low) v in
         let d : ℕ = t .high - t .low in
         let a : t .low + d ≡ t .high = omega (arith, t .below) in
-        let back : times step d u ≡ u = sym (times-add step (t .low) d v) ∙ ap (λ (j : ℕ). times step j v) a ∙ sym (t .equal) in
-        let (w, q) = climb d u (times-below step n step-below (t .low) v l)
-        (λ i b. subst (λ (y : ℕ). y ≢ 0) (times-add step (t .low) i v) (h (t .low + i) (omega (arith, t .below, t .within))))
+        let round : repeated step d u ≡ u = sym (repeated-add step (t .low) d v) ∙ ap (λ (j : ℕ). repeated step j v) a ∙ sym (t .equal) in
+        let (w, q) = climb d u (repeated-below step n step-below (t .low) v l)
+        (λ i b. subst (λ (y : ℕ). y ≢ 0) (repeated-add step (t .low) i v) (h (t .low + i) (omega (arith, t .below, t .within))))
         in
-        let r : (val u +ℤ pos d) ≡ (val u +ℤ (pos scale *ℤ w)) = q ∙ ap (λ (y : ℕ). val y +ℤ (pos scale *ℤ w)) back in
+        let r : (val u +ℤ pos d) ≡ (val u +ℤ (pos scale *ℤ w)) = q ∙ ap (λ (y : ℕ). val y +ℤ (pos scale *ℤ w)) round in
         omega (signed, r, sum (val u) (pos d), sum (val u) (pos scale *ℤ w), product scale w, t .below, t .within)
 
     -- so every event has a walk of fewer than n arcs whose weight is its value
     attained : (v : ℕ) → v < n → (j : ℕ) × (j < n) × (w : ℤ) × Walk arcs j v w × ((val v +ℤ pos j) ≡ (pos scale *ℤ w))
-    attained v l = by (first (λ j. times step j v ≡ 0) (λ j. ℕ-discrete (times step j v) 0) n)
+    attained v l = by (first (λ j. repeated step j v ≡ 0) (λ j. ℕ-discrete (repeated step j v) 0) n)
       where
-        by : FirstBelow (λ j. times step j v ≡ 0) n → (j : ℕ) × (j < n) × (w : ℤ) × Walk arcs j v w × ((val v +ℤ pos j) ≡ (pos scale *ℤ w))
+        by : FirstBelow (λ j. repeated step j v ≡ 0) n → (j : ℕ) × (j < n) × (w : ℤ) × Walk arcs j v w × ((val v +ℤ pos j) ≡ (pos scale *ℤ w))
         by (found j b e h) = let (w, walk, q) = reach j v l h e in (j, b, w, walk, q)
-        by (nowhere h) = absurd (no-return v l h (pigeon n (λ j. times step j v) (λ j b. times-below step n step-below j v l)))
+        by (nowhere h) = absurd (no-return v l h (pigeon n (λ j. repeated step j v) (λ j b. repeated-below step n step-below j v l)))
 
     -- the value of an event is the greatest sum over walks of the weighted arcs, of any number of arcs, and one of fewer than n arcs has it
     pub certified : (v : ℕ) → v < n

@@ -8,14 +8,14 @@ use lib.ListN.{getD}
 use Rattle.laws.proofs.Signed.{signed, sum}
 use Rattle.walks.specs.Walks.{Arc}
 use Rattle.walks.specs.Solutions.{total}
-use Rattle.walks.specs.Parents.{Parents, no-arc, before, times, back, trail}
+use Rattle.walks.specs.Parents.{Parents, no-arc, before, repeated, steps-back, trail}
 use Rattle.walks.proofs.Parents.{back-at, trail-at}
 
 -- one step more, at the end
-pub times-suc : (g : ℕ → ℕ) (j v : ℕ) → times g (suc j) v ≡ g (times g j v)
-unfolding times
-times-suc g zero v = refl
-times-suc g (suc j) v = times-suc g j (g v)
+pub repeated-suc : (g : ℕ → ℕ) (j v : ℕ) → repeated g (suc j) v ≡ g (repeated g j v)
+unfolding repeated
+repeated-suc g zero v = refl
+repeated-suc g (suc j) v = repeated-suc g j (g v)
 
 pub total-snoc : (l : List Arc) (a : Arc) → total (l ++ (a ∷ [])) ≡ total l +ℤ a .adds
 unfolding total
@@ -26,24 +26,24 @@ total-snoc (b ∷ l) a =
 
 module _ (arcs : List Arc) (ps : Parents) where
   -- it leads to where the parent of the event reached begins
-  pub back-suc : (j v i : ℕ) → getD ps (back arcs ps j v) none ≡ some i → back arcs ps (suc j) v ≡ (getD arcs i no-arc) .from
+  pub back-suc : (j v i : ℕ) → getD ps (steps-back arcs ps j v) none ≡ some i → steps-back arcs ps (suc j) v ≡ (getD arcs i no-arc) .from
   unfolding before
-  back-suc j v i e = times-suc (before arcs ps) j v ∙ ap (λ (o : Option ℕ). elim o [ none ↦ back arcs ps j v | some x ↦ (getD arcs x no-arc) .from ]) e
+  back-suc j v i e = repeated-suc (before arcs ps) j v ∙ ap (λ (o : Option ℕ). elim o [ none ↦ steps-back arcs ps j v | some x ↦ (getD arcs x no-arc) .from ]) e
 
   -- an event without a parent is never left
-  stuck : (j v : ℕ) → getD ps v none ≡ none → back arcs ps j v ≡ v
-  unfolding times before
+  stuck : (j v : ℕ) → getD ps v none ≡ none → steps-back arcs ps j v ≡ v
+  unfolding repeated before
   stuck zero v e = refl
-  stuck (suc j) v e = ap (λ (o : Option ℕ). back arcs ps j (elim o [ none ↦ v | some x ↦ (getD arcs x no-arc) .from ])) e ∙ stuck j v e
+  stuck (suc j) v e = ap (λ (o : Option ℕ). steps-back arcs ps j (elim o [ none ↦ v | some x ↦ (getD arcs x no-arc) .from ])) e ∙ stuck j v e
 
   -- and adds that parent to the trail
-  pub trail-suc : (j v i : ℕ) → getD ps (back arcs ps j v) none ≡ some i → trail arcs ps (suc j) v ≡ trail arcs ps j v ++ (getD arcs i no-arc ∷ [])
-  unfolding trail times
+  pub trail-suc : (j v i : ℕ) → getD ps (steps-back arcs ps j v) none ≡ some i → trail arcs ps (suc j) v ≡ trail arcs ps j v ++ (getD arcs i no-arc ∷ [])
+  unfolding trail repeated
   trail-suc zero v i e = trail-at arcs ps 0 v i e
   trail-suc (suc j) v i e = by (getD ps v none) refl (λ u. trail-suc j u i)
     where
       by : (o : Option ℕ) → getD ps v none ≡ o
-          → ((u : ℕ) → getD ps (back arcs ps j u) none ≡ some i → trail arcs ps (suc j) u ≡ trail arcs ps j u ++ (getD arcs i no-arc ∷ []))
+          → ((u : ℕ) → getD ps (steps-back arcs ps j u) none ≡ some i → trail arcs ps (suc j) u ≡ trail arcs ps j u ++ (getD arcs i no-arc ∷ []))
           → trail arcs ps (suc (suc j)) v ≡ trail arcs ps (suc j) v ++ (getD arcs i no-arc ∷ [])
       by none q more = absurd (Option·none-ne-some _ (sym (ap (λ (u : ℕ). getD ps u none) (stuck (suc j) v q) ∙ q) ∙ e))
       by (some x) q more =

@@ -8,8 +8,9 @@ use mathlib.Core.List.{List, [], _∷_, List·Memᴰ, List·Memᴰ·head, List·
 use mathlib.Core.Option.{Option, none, some, Option·none-ne-some, Option·some-injective}
 use lib.IntN.{ℤ, pos, _+ℤ_}
 use lib.Signed.{ltZ, _≤ℤ_}
-use lib.ListN.{length, getD, set, replicate, length-set, length-replicate}
+use lib.ListN.{length, getD, set, length-set, length-replicate}
 use lib.Seq.{getD-set-same}
+use Rattle.laws.proofs.Members.{none-there}
 use Rattle.walks.specs.Walks.{Arc, Walk, stay, go, WalkWithin, Greatest}
 use Rattle.walks.specs.Passes.{Sums, greater, plus, raise, raise-all, pass, at-start, sums}
 use Rattle.laws.proofs.Signed.{signed, sum}
@@ -187,17 +188,12 @@ raise-all-reached arcs k old (t ∷ ts) new sub r q =
     raise-all-reached arcs k old ts (raise old new t) (λ a m. sub a (List·Memᴰ·tail m)) r
     (raise-reached arcs k old new t (sub t (List·Memᴰ·head refl)) r q)
 
-pub no-sum : (n v : ℕ) (x : ℤ) → getD (replicate n none) v none ≡ some x → ⊥
-no-sum zero v x e = Option·none-ne-some _ e
-no-sum (suc n) zero x e = Option·none-ne-some _ e
-no-sum (suc n) (suc v) x e = no-sum n v x e
-
 -- a walk of at most k arcs has that sum
 pub some-equal : (arcs : List Arc) (n k v : ℕ) (x : ℤ) → getD (sums arcs n k) v none ≡ some x → WalkWithin arcs k v x
 unfolding sums pass at-start Reached
 some-equal arcs zero zero v x e = absurd (Option·none-ne-some _ e)
 some-equal arcs (suc n) zero zero x e = record { count = 0; fits = omega arith; walk = subst (λ (z : ℤ). Walk arcs 0 0 z) (Option·some-injective _ _ e) stay }
-some-equal arcs (suc n) zero (suc v) x e = absurd (no-sum n v x e)
+some-equal arcs (suc n) zero (suc v) x e = absurd (none-there n v x e)
 some-equal arcs n (suc k) v x e =
     raise-all-reached arcs k (sums arcs n k) arcs (sums arcs n k) (λ a m. m) (some-equal arcs n k)
     (λ u y f. longer arcs k u y (some-equal arcs n k u y f)) v x e

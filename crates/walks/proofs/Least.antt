@@ -1,16 +1,16 @@
 -- The settled sums are the least times that every arc allows. Assumes nothing.
 use Prim.Native.Nat.{ℕ, suc, _<_}
-use mathlib.Core.Path.{_≡_}
+use mathlib.Core.Path.{_≡_, ap, sym, _∙_}
 use mathlib.Core.List.{List, List·Memᴰ}
 use mathlib.Core.Option.{none, some}
 use lib.IntN.{ℤ, pos, _+ℤ_}
 use lib.Signed.{_≤ℤ_}
 use lib.ListN.{getD}
 use Rattle.walks.specs.Walks.{Arc, Walk, stay, go, WalkWithin}
-use Rattle.walks.specs.Passes.{sums, Settled, settled}
+use Rattle.walks.specs.Passes.{Sums, sums, Settled, settled}
 use Rattle.walks.specs.Solutions.{Solves, Between}
 use Rattle.walks.proofs.Greatest.{AtLeast, some-equal}
-use Rattle.walks.proofs.Settling.{one-value, settled-bounds, settled-walk, settled-start}
+use Rattle.walks.proofs.Settling.{one-value, settled-is, settled-bounds, settled-walk, settled-start}
 use Rattle.laws.proofs.Signed.{signed, sum}
 
 -- times that every arc allows are not below the time at the start plus the sum of a walk
@@ -36,9 +36,7 @@ below-solutions arcs n t h k v x e = let r : WalkWithin arcs k v x = some-equal 
 module _ (arcs : List Arc) (n : ℕ) (p : 0 < n) (i : Between arcs n) (s : Settled) (e : settled arcs n ≡ some s) where
   -- nor below the settled sums
   pub below-settled : (t : ℕ → ℤ) → Solves arcs t → (v : ℕ) (x : ℤ) → getD (s .sums) v none ≡ some x → x ≤ℤ t v
-  below-settled t h v x f =
-      let r : WalkWithin arcs (s .passes) v x = settled-walk arcs n p i s e v x f in
-      walk-below arcs t h (r .count) v x (r .walk)
+  below-settled t h v x f = below-solutions arcs n t h (s .passes) v x (ap (λ (l : Sums). getD l v none) (sym (settled-is arcs n s e .0)) ∙ f)
 
   -- every arc allows the settled sums: a walk to its beginning goes on along it
   pub settled-solves : (a : Arc) → List·Memᴰ a arcs → (x y : ℤ) → getD (s .sums) (a .from) none ≡ some x → getD (s .sums) (a .to) none ≡ some y

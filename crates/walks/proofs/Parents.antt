@@ -7,11 +7,11 @@ use mathlib.Core.List.{List, [], _∷_, List·Memᴰ, List·Memᴰ·not-nil, Lis
 use mathlib.Core.Option.{Option, none, some, Option·none-ne-some, Option·some-injective}
 use lib.IntN.{ℤ, pos, _+ℤ_}
 use lib.Signed.{_≤ℤ_, _<ℤ_}
-use lib.ListN.{length, getD, replicate}
-use Rattle.laws.proofs.Members.{at-place}
+use lib.ListN.{length, getD}
+use Rattle.laws.proofs.Members.{at-place, none-there}
 use Rattle.walks.specs.Walks.{Arc}
 use Rattle.walks.specs.Passes.{Sums, sums}
-use Rattle.walks.specs.Parents.{Parents, parents, no-arc, before, times, back, trail}
+use Rattle.walks.specs.Parents.{Parents, parents, no-arc, before, repeated, steps-back, trail}
 use Rattle.walks.specs.Solutions.{Between, Back, total}
 use Rattle.walks.proofs.Settling.{one-value}
 use Rattle.walks.proofs.Outcome.{arc, Outcome, same, rose, outcome}
@@ -24,29 +24,23 @@ pub some-parent : (o : Option ℕ) (P : Type 0) → o ≢ none → ((i : ℕ) �
 some-parent none P h f = absurd (h refl)
 some-parent (some i) P h f = f i refl
 
--- no parent is there before the first pass
-no-parent : (n v i : ℕ) → getD (replicate n none) v none ≡ some i → ⊥
-no-parent zero v i e = Option·none-ne-some _ e
-no-parent (suc n) zero i e = Option·none-ne-some _ e
-no-parent (suc n) (suc v) i e = no-parent n v i e
-
 module _ (arcs : List Arc) (ps : Parents) where
   -- one step back from an event with a parent, and the first arc of its trail
   before-at : (v i : ℕ) → getD ps v none ≡ some i → before arcs ps v ≡ (arc arcs i) .from
   unfolding before
   before-at v i e = ap (λ (o : Option ℕ). elim o [ none ↦ v | some z ↦ (arc arcs z) .from ]) e
 
-  pub back-at : (j v i : ℕ) → getD ps v none ≡ some i → back arcs ps (suc j) v ≡ back arcs ps j ((arc arcs i) .from)
-  unfolding times
-  back-at j v i e = ap (times (before arcs ps) j) (before-at v i e)
+  pub back-at : (j v i : ℕ) → getD ps v none ≡ some i → steps-back arcs ps (suc j) v ≡ steps-back arcs ps j ((arc arcs i) .from)
+  unfolding repeated
+  back-at j v i e = ap (repeated (before arcs ps) j) (before-at v i e)
 
   pub trail-at : (j v i : ℕ) → getD ps v none ≡ some i → trail arcs ps (suc j) v ≡ arc arcs i ∷ trail arcs ps j ((arc arcs i) .from)
   unfolding trail
   trail-at j v i e = ap (λ (o : Option ℕ). elim o [ none ↦ [] | some z ↦ arc arcs z ∷ trail arcs ps j ((arc arcs z) .from) ]) e
 
   -- what holds of the events back from v holds of those back from the event before it
-  later : (j v i : ℕ) → getD ps v none ≡ some i → ((a : ℕ) → a < suc j → getD ps (back arcs ps a v) none ≢ none)
-      → (a : ℕ) → a < j → getD ps (back arcs ps a ((arc arcs i) .from)) none ≢ none
+  later : (j v i : ℕ) → getD ps v none ≡ some i → ((a : ℕ) → a < suc j → getD ps (steps-back arcs ps a v) none ≢ none)
+      → (a : ℕ) → a < j → getD ps (steps-back arcs ps a ((arc arcs i) .from)) none ≢ none
   later j v i q h a b = rw (back-at a v i q) at (h (suc a) (omega arith))
 
 module _ (arcs : List Arc) (n : ℕ) (between : Between arcs n) where
@@ -78,7 +72,7 @@ module _ (arcs : List Arc) (n : ℕ) (between : Between arcs n) where
   last-le (suc k) v = rank-le (outcome arcs n between k v) k (last k v) (last-le k v)
 
   -- arc i is the parent of v: the sums where it begins and ends are ou and ov, last raised by the passes lu and lv
-  pub record Held (i v : ℕ) (ou ov : Option ℤ) (lu lv : ℕ) : Type 0 where
+  pub record ParentArc (i v : ℕ) (ou ov : Option ℤ) (lu lv : ℕ) : Type 0 where
     pub place : i < length arcs
     pub to : (arc arcs i) .to ≡ v
     pub su : ℤ
@@ -89,17 +83,17 @@ module _ (arcs : List Arc) (n : ℕ) (between : Between arcs n) where
     pub tie : sv ≡ su +ℤ (arc arcs i) .adds → lu < lv
 
   -- one pass more: the parent gives v its sum, or its beginning is raised, or nothing changes
-  hold : (k v i : ℕ) {ov : Option ℤ} {qv : Option ℕ} (wv : Outcome arcs (sums arcs n k) (parents arcs n k) v ov qv)
+  parent-arc-after : (k v i : ℕ) {ov : Option ℤ} {qv : Option ℕ} (wv : Outcome arcs (sums arcs n k) (parents arcs n k) v ov qv)
       {ou : Option ℤ} {qu : Option ℕ} (wu : Outcome arcs (sums arcs n k) (parents arcs n k) ((arc arcs i) .from) ou qu)
-      → (parent-at k v ≡ some i → Held i v (sum-at k ((arc arcs i) .from)) (sum-at k v) (last k ((arc arcs i) .from)) (last k v))
+      → (parent-at k v ≡ some i → ParentArc i v (sum-at k ((arc arcs i) .from)) (sum-at k v) (last k ((arc arcs i) .from)) (last k v))
       → qv ≡ some i
-      → Held i v ou ov (rank wu k (last k ((arc arcs i) .from))) (rank wv k (last k v))
+      → ParentArc i v ou ov (rank wu k (last k ((arc arcs i) .from))) (rank wv k (last k v))
   unfolding rank
-  hold k v i same same ih e = ih e
-  hold k v i same (rose a x l to from up) ih e =
+  parent-arc-after k v i same same ih e = ih e
+  parent-arc-after k v i same (rose a x l to from up) ih e =
       let w : ℤ = (arc arcs i) .adds in
       let t : ℤ = x +ℤ (arc arcs a) .adds in
-      let h : Held i v (sum-at k ((arc arcs i) .from)) (sum-at k v) (last k ((arc arcs i) .from)) (last k v) = ih e in
+      let h : ParentArc i v (sum-at k ((arc arcs i) .from)) (sum-at k v) (last k ((arc arcs i) .from)) (last k v) = ih e in
       let r : h .su <ℤ t = up (h .su) (h .u-is) in
       record {
         place = h .place;
@@ -111,8 +105,8 @@ module _ (arcs : List Arc) (n : ℕ) (between : Between arcs n) where
         le = omega (signed, sum t w, sum (h .su) w, h .le);
         tie = λ q. absurd (omega (signed, sum t w, sum (h .su) w, h .le));
       }
-  hold k v i (rose j x l to from up) same ih e =
-      subst (λ (z : ℕ). Held z v (sum-at k ((arc arcs z) .from)) (some (x +ℤ (arc arcs j) .adds)) (last k ((arc arcs z) .from)) (suc k))
+  parent-arc-after k v i (rose j x l to from up) same ih e =
+      subst (λ (z : ℕ). ParentArc z v (sum-at k ((arc arcs z) .from)) (some (x +ℤ (arc arcs j) .adds)) (last k ((arc arcs z) .from)) (suc k))
       (Option·some-injective _ _ e)
       (record {
         place = l;
@@ -124,10 +118,10 @@ module _ (arcs : List Arc) (n : ℕ) (between : Between arcs n) where
         le = omega signed;
         tie = λ q. omega (arith, last-le k ((arc arcs j) .from));
       })
-  hold k v i (rose j x l to from up) (rose a y m to′ from′ up′) ih e =
+  parent-arc-after k v i (rose j x l to from up) (rose a y m to′ from′ up′) ih e =
       let w : ℤ = (arc arcs j) .adds in
       let t : ℤ = y +ℤ (arc arcs a) .adds in
-      subst (λ (z : ℕ). ((r : ℤ) → sum-at k ((arc arcs z) .from) ≡ some r → r <ℤ t) → Held z v (some t) (some (x +ℤ w)) (suc k) (suc k))
+      subst (λ (z : ℕ). ((r : ℤ) → sum-at k ((arc arcs z) .from) ≡ some r → r <ℤ t) → ParentArc z v (some t) (some (x +ℤ w)) (suc k) (suc k))
       (Option·some-injective _ _ e)
       (λ more. let r : x <ℤ t = more x from in
       record {
@@ -143,10 +137,10 @@ module _ (arcs : List Arc) (n : ℕ) (between : Between arcs n) where
       up′
 
   -- so the sum of v is at most that where its parent begins plus what that adds, and where it is just that, v was raised later
-  pub held : (k v i : ℕ) → parent-at k v ≡ some i → Held i v (sum-at k ((arc arcs i) .from)) (sum-at k v) (last k ((arc arcs i) .from)) (last k v)
+  pub parent-arc : (k v i : ℕ) → parent-at k v ≡ some i → ParentArc i v (sum-at k ((arc arcs i) .from)) (sum-at k v) (last k ((arc arcs i) .from)) (last k v)
   unfolding last parents
-  held zero v i e = absurd (no-parent n v i e)
-  held (suc k) v i e = hold k v i (outcome arcs n between k v) (outcome arcs n between k ((arc arcs i) .from)) (held k v i) e
+  parent-arc zero v i e = absurd (none-there n v i e)
+  parent-arc (suc k) v i e = parent-arc-after k v i (outcome arcs n between k v) (outcome arcs n between k ((arc arcs i) .from)) (parent-arc k v i) e
 
   -- an event without a parent has the sum that it started with: one pass more, and so all
   root : (k v : ℕ) {o : Option ℤ} {q : Option ℕ} → Outcome arcs (sums arcs n k) (parents arcs n k) v o q
@@ -161,7 +155,7 @@ module _ (arcs : List Arc) (n : ℕ) (between : Between arcs n) where
   -- ---- chains of parents
 
   -- j steps back from v, whose sum is sv, to x along l: they add at least the difference of the sums, and where they add just that each step goes to an earlier pass
-  pub record Chain (k j v : ℕ) (sv : ℤ) (x : ℕ) (l : List Arc) : Type 0 where
+  pub record ParentChain (k j v : ℕ) (sv : ℤ) (x : ℕ) (l : List Arc) : Type 0 where
     pub end : ℤ
     pub is : sum-at k x ≡ some end
     pub of-arcs : (a : Arc) → List·Memᴰ a l → List·Memᴰ a arcs
@@ -177,9 +171,9 @@ module _ (arcs : List Arc) (n : ℕ) (between : Between arcs n) where
 
   -- a chain goes on by a parent
   one-more : (k j v i : ℕ) (su sv : ℤ) (x : ℕ) (l : List Arc) → sum-at k v ≡ some sv → sum-at k ((arc arcs i) .from) ≡ some su
-      → Held i v (sum-at k ((arc arcs i) .from)) (sum-at k v) (last k ((arc arcs i) .from)) (last k v)
-      → Chain k j ((arc arcs i) .from) su x l
-      → Chain k (suc j) v sv x (arc arcs i ∷ l)
+      → ParentArc i v (sum-at k ((arc arcs i) .from)) (sum-at k v) (last k ((arc arcs i) .from)) (last k v)
+      → ParentChain k j ((arc arcs i) .from) su x l
+      → ParentChain k (suc j) v sv x (arc arcs i ∷ l)
   unfolding total
   one-more k j v i su sv x l e d h c =
       let w : ℤ = (arc arcs i) .adds in
@@ -202,10 +196,10 @@ module _ (arcs : List Arc) (n : ℕ) (between : Between arcs n) where
       }
 
   -- as long as there are parents
-  pub chain : (k j v : ℕ) (sv : ℤ) → sum-at k v ≡ some sv → ((i : ℕ) → i < j → parent-at k (back arcs (parents arcs n k) i v) ≢ none)
-      → Chain k j v sv (back arcs (parents arcs n k) j v) (trail arcs (parents arcs n k) j v)
-  unfolding times trail total
-  chain k zero v sv e h =
+  pub parent-chain : (k j v : ℕ) (sv : ℤ) → sum-at k v ≡ some sv → ((i : ℕ) → i < j → parent-at k (steps-back arcs (parents arcs n k) i v) ≢ none)
+      → ParentChain k j v sv (steps-back arcs (parents arcs n k) j v) (trail arcs (parents arcs n k) j v)
+  unfolding repeated trail total
+  parent-chain k zero v sv e h =
       record {
         end = sv;
         is = e;
@@ -215,10 +209,10 @@ module _ (arcs : List Arc) (n : ℕ) (between : Between arcs n) where
         le = omega (signed, sum sv (pos 0));
         tie = λ q. omega arith;
       }
-  chain k (suc j) v sv e h =
-      some-parent (parent-at k v) (Chain k (suc j) v sv (back arcs (parents arcs n k) (suc j) v) (trail arcs (parents arcs n k) (suc j) v)) (h 0 (omega arith))
+  parent-chain k (suc j) v sv e h =
+      some-parent (parent-at k v) (ParentChain k (suc j) v sv (steps-back arcs (parents arcs n k) (suc j) v) (trail arcs (parents arcs n k) (suc j) v)) (h 0 (omega arith))
       (λ i q.
-      let a : Held i v (sum-at k ((arc arcs i) .from)) (sum-at k v) (last k ((arc arcs i) .from)) (last k v) = held k v i q in
+      let a : ParentArc i v (sum-at k ((arc arcs i) .from)) (sum-at k v) (last k ((arc arcs i) .from)) (last k v) = parent-arc k v i q in
       rw (back-at arcs (parents arcs n k) j v i q, trail-at arcs (parents arcs n k) j v i q)
-      (one-more k j v i (a .su) sv (back arcs (parents arcs n k) j ((arc arcs i) .from)) (trail arcs (parents arcs n k) j ((arc arcs i) .from)) e (a .u-is) a
-      (chain k j ((arc arcs i) .from) (a .su) (a .u-is) (later arcs (parents arcs n k) j v i q h))))
+      (one-more k j v i (a .su) sv (steps-back arcs (parents arcs n k) j ((arc arcs i) .from)) (trail arcs (parents arcs n k) j ((arc arcs i) .from)) e (a .u-is) a
+      (parent-chain k j ((arc arcs i) .from) (a .su) (a .u-is) (later arcs (parents arcs n k) j v i q h))))

@@ -9,7 +9,7 @@ use lib.IntN.{ℤ, pos, negsuc, _+ℤ_}
 use lib.Signed.{_≤ℤ_, leZ-yes}
 use Rattle.walks.specs.Walks.{Arc}
 use Rattle.walks.specs.Passes.{open-passes, sums, pass-number}
-use Rattle.walks.specs.Parents.{open-parents, parents, back, trail}
+use Rattle.walks.specs.Parents.{open-parents, parents, steps-back, trail}
 use Rattle.walks.specs.Certificate.{open-certificate, weighted, Tight, Certificate}
 
 arc : ℕ → ℕ → ℤ → Arc
@@ -59,7 +59,7 @@ unfolding open-passes open-parents arc tie
 tie-parents = refl
 
 -- back from an event that gains for ever, the arcs of the cycle, the last first
-gain-trail : trail gain (parents gain 2 2) 2 (back gain (parents gain 2 2) 2 0) ≡ arc 1 0 (negsuc 0) ∷ arc 0 1 (pos 2) ∷ []
+gain-trail : trail gain (parents gain 2 2) 2 (steps-back gain (parents gain 2 2) 2 0) ≡ arc 1 0 (negsuc 0) ∷ arc 0 1 (pos 2) ∷ []
 unfolding open-passes open-parents arc gain
 gain-trail = refl
 

@@ -1,26 +1,24 @@
--- An event raised by as many passes as there are events leads back to a cycle of parents that gains; so sums that do not settle show a positive cycle.
--- Assumes nothing.
+-- An event raised by as many passes as there are events leads back to a cycle of parents that gains. Assumes nothing.
 use Prim.Native.Nat.{ℕ, zero, suc, _+_, _≤_, _<_}
 use native.Mathlib.Omega.{arith}
 use mathlib.Core.Path.{_≡_, refl, sym, _∙_, subst}
 use mathlib.Core.Logic.{_≢_, ⊎-elim}
 use mathlib.Core.List.{List, [], _∷_, List·Memᴰ, List·Memᴰ·head, List·Memᴰ·tail}
 use mathlib.Core.Option.{Option, none, some, Option·none-ne-some, Option·some-injective}
-use mathlib.Core.Option as Opt
 use lib.IntN.{ℤ, pos, _+ℤ_}
 use lib.Signed.{_<ℤ_}
 use lib.ListN.{length, getD}
-use Rattle.laws.proofs.Members.{at-place}
+use Rattle.laws.proofs.Members.{at-place, none-there}
 use Rattle.walks.specs.Walks.{Arc, Walk, stay, go}
 use Rattle.walks.specs.Passes.{at-start, sums}
-use Rattle.walks.specs.Parents.{Parents, parents, no-arc, before, times, back, trail, Cyclic, Trapped}
+use Rattle.walks.specs.Parents.{Parents, parents, no-arc, before, repeated, steps-back, trail, Cyclic, Trapped}
 use Rattle.walks.specs.Solutions.{Between, Back, total}
-use Rattle.walks.proofs.Greatest.{AtLeast, no-sum, none-greater}
+use Rattle.walks.proofs.Greatest.{AtLeast, none-greater}
 use Rattle.walks.proofs.Settling.{ends-below}
 use Rattle.walks.proofs.Search.{FirstBelow, found, nowhere, first}
-use Rattle.walks.proofs.Orbit.{times-add, lands, forever}
+use Rattle.walks.proofs.Orbit.{repeated-add, lands, forever}
 use Rattle.walks.proofs.Outcome.{arc, Outcome, same, rose, outcome}
-use Rattle.walks.proofs.Parents.{some-parent, sum-at, parent-at, held, rooted, Chain, chain}
+use Rattle.walks.proofs.Parents.{some-parent, sum-at, parent-at, parent-arc, rooted, ParentChain, parent-chain}
 use Rattle.laws.proofs.Signed.{signed, sum, lt-or-le}
 
 -- whether an event has no parent
@@ -33,7 +31,7 @@ start-at : (n x : ℕ) (s : ℤ) → getD (at-start n) x none ≡ some s → (x 
 unfolding at-start
 start-at zero x s e = absurd (Option·none-ne-some _ e)
 start-at (suc n) zero s e = (refl, sym (Option·some-injective _ _ e))
-start-at (suc n) (suc x) s e = absurd (no-sum n x s e)
+start-at (suc n) (suc x) s e = absurd (none-there n x s e)
 
 -- arcs followed backwards to the start are a walk
 pub back-walk : (arcs : List Arc) (v : ℕ) (l : List Arc) → Back v 0 l → ((a : Arc) → List·Memᴰ a l → List·Memᴰ a arcs)
@@ -66,18 +64,18 @@ module _ (arcs : List Arc) (n : ℕ) (p : 0 < n) (between : Between arcs n) wher
     where
       by : (o : Option ℕ) → parent-at arcs n between k u ≡ o → elim o [ none ↦ u | some i ↦ (arc arcs i) .from ] < n
       by none e = h
-      by (some i) e = between (arc arcs i) (at-place arcs i no-arc (held arcs n between k u i e .place)) .0
+      by (some i) e = between (arc arcs i) (at-place arcs i no-arc (parent-arc arcs n between k u i e .place)) .0
 
   -- an event without a parent j steps back, j at most k, would be the start, with a walk of j arcs whose sum is at least the new one
   no-root : (k v j : ℕ) → j ≤ k → Rise k v (sum-at arcs n between (suc k) v)
-      → ((i : ℕ) → i < j → parent-at arcs n between (suc k) (back arcs (parents arcs n (suc k)) i v) ≢ none)
-      → parent-at arcs n between (suc k) (back arcs (parents arcs n (suc k)) j v) ≢ none
+      → ((i : ℕ) → i < j → parent-at arcs n between (suc k) (steps-back arcs (parents arcs n (suc k)) i v) ≢ none)
+      → parent-at arcs n between (suc k) (steps-back arcs (parents arcs n (suc k)) j v) ≢ none
   unfolding sums
   no-root k v j b r h e =
       let ps : Parents = parents arcs n (suc k) in
-      let x : ℕ = back arcs ps j v in
+      let x : ℕ = steps-back arcs ps j v in
       let l : List Arc = trail arcs ps j v in
-      let c : Chain arcs n between (suc k) j v (r .top) x l = chain arcs n between (suc k) j v (r .top) (r .is) h in
+      let c : ParentChain arcs n between (suc k) j v (r .top) x l = parent-chain arcs n between (suc k) j v (r .top) (r .is) h in
       let s : getD (at-start n) x none ≡ some (c .end) = sym (rooted arcs n between (suc k) x e) ∙ c .is in
       let z : (x ≡ 0) × (c .end ≡ pos 0) = start-at n x (c .end) s in
       let (w, walk, q) = back-walk arcs v l (subst (λ (y : ℕ). Back v y l) (z .0) (c .walk)) (c .of-arcs) in
@@ -87,32 +85,32 @@ module _ (arcs : List Arc) (n : ℕ) (p : 0 < n) (between : Between arcs n) wher
 
   -- so each of the first k + 1 events back has a parent
   unrooted : (k v : ℕ) → Rise k v (sum-at arcs n between (suc k) v)
-      → (j : ℕ) → j < suc k → parent-at arcs n between (suc k) (back arcs (parents arcs n (suc k)) j v) ≢ none
+      → (j : ℕ) → j < suc k → parent-at arcs n between (suc k) (steps-back arcs (parents arcs n (suc k)) j v) ≢ none
   unrooted k v r =
-      by (first (λ j. parent-at arcs n between (suc k) (back arcs (parents arcs n (suc k)) j v) ≡ none)
-      (λ j. none? (parent-at arcs n between (suc k) (back arcs (parents arcs n (suc k)) j v))) (suc k))
+      by (first (λ j. parent-at arcs n between (suc k) (steps-back arcs (parents arcs n (suc k)) j v) ≡ none)
+      (λ j. none? (parent-at arcs n between (suc k) (steps-back arcs (parents arcs n (suc k)) j v))) (suc k))
     where
-      by : FirstBelow (λ j. parent-at arcs n between (suc k) (back arcs (parents arcs n (suc k)) j v) ≡ none) (suc k)
-          → (j : ℕ) → j < suc k → parent-at arcs n between (suc k) (back arcs (parents arcs n (suc k)) j v) ≢ none
+      by : FirstBelow (λ j. parent-at arcs n between (suc k) (steps-back arcs (parents arcs n (suc k)) j v) ≡ none) (suc k)
+          → (j : ℕ) → j < suc k → parent-at arcs n between (suc k) (steps-back arcs (parents arcs n (suc k)) j v) ≢ none
       by (found i b e l) = absurd (no-root k v i (omega arith) r l e)
       by (nowhere h) = h
 
   -- a closed chain of parents gains: if it did not, each step would go to an earlier pass, and the last to the first
-  closed-gains : (k j x : ℕ) → 0 < j → ((i : ℕ) → parent-at arcs n between k (back arcs (parents arcs n k) i x) ≢ none)
-      → back arcs (parents arcs n k) j x ≡ x
+  closed-gains : (k j x : ℕ) → 0 < j → ((i : ℕ) → parent-at arcs n between k (steps-back arcs (parents arcs n k) i x) ≢ none)
+      → steps-back arcs (parents arcs n k) j x ≡ x
       → ((a : Arc) → List·Memᴰ a (trail arcs (parents arcs n k) j x) → List·Memᴰ a arcs) × Back x x (trail arcs (parents arcs n k) j x)
       × (length (trail arcs (parents arcs n k) j x) ≡ j)
       × (pos 0 <ℤ total (trail arcs (parents arcs n k) j x))
-  unfolding times
+  unfolding repeated
   closed-gains k j x b h e =
       let l : List Arc = trail arcs (parents arcs n k) j x in
       some-parent (parent-at arcs n between k x)
       (((a : Arc) → List·Memᴰ a l → List·Memᴰ a arcs) × Back x x l × (length l ≡ j) × (pos 0 <ℤ total l)) (h 0)
       (λ i q.
-      let a = held arcs n between k x i q in
+      let a = parent-arc arcs n between k x i q in
       let sx : ℤ = a .sv in
-      let c : Chain arcs n between k j x sx x l =
-      subst (λ (y : ℕ). Chain arcs n between k j x sx y l) e (chain arcs n between k j x sx (a .v-is) (λ i _. h i))
+      let c : ParentChain arcs n between k j x sx x l =
+      subst (λ (y : ℕ). ParentChain arcs n between k j x sx y l) e (parent-chain arcs n between k j x sx (a .v-is) (λ i _. h i))
       in
       let d : c .end ≡ sx = Option·some-injective _ _ (sym (c .is) ∙ a .v-is) in (
         c .of-arcs,
@@ -133,9 +131,9 @@ module _ (arcs : List Arc) (n : ℕ) (p : 0 < n) (between : Between arcs n) wher
       ps = parents arcs n (suc k)
 
       x : ℕ
-      x = back arcs ps n v
+      x = steps-back arcs ps n v
 
-      all : (j : ℕ) → getD ps (back arcs ps j v) none ≢ none
+      all : (j : ℕ) → getD ps (steps-back arcs ps j v) none ≢ none
       all =
           forever (before arcs ps) n v (inside (suc k)) b (λ u. getD ps u none ≢ none)
           (λ j c. unrooted k v (rise k v (outcome arcs n between k v) up) j (omega arith))
@@ -143,8 +141,8 @@ module _ (arcs : List Arc) (n : ℕ) (p : 0 < n) (between : Between arcs n) wher
       cyc : Cyclic (before arcs ps) n x
       cyc = lands (before arcs ps) n v (inside (suc k)) b
 
-      from-x : (i : ℕ) → getD ps (back arcs ps i x) none ≢ none
-      from-x i = rw (times-add (before arcs ps) n i v) at (all (n + i))
+      from-x : (i : ℕ) → getD ps (steps-back arcs ps i x) none ≢ none
+      from-x i = rw (repeated-add (before arcs ps) n i v) at (all (n + i))
 
       gain : ((a : Arc) → List·Memᴰ a (trail arcs ps (cyc .period) x) → List·Memᴰ a arcs) × Back x x (trail arcs ps (cyc .period) x)
           × (length (trail arcs ps (cyc .period) x) ≡ cyc .period)

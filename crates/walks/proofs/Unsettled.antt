@@ -14,7 +14,7 @@ use lib.Signed.{_<ℤ_}
 use lib.ListN.{length, getD}
 use Rattle.walks.specs.Walks.{Arc}
 use Rattle.walks.specs.Passes.{sums, first-agreeing, pass-number, Settled, settled}
-use Rattle.walks.specs.Parents.{Parents, parents, times, back, trail, Trapped}
+use Rattle.walks.specs.Parents.{Parents, parents, repeated, steps-back, trail, Trapped}
 use Rattle.walks.specs.Solutions.{Solves, Between, Back, NoneTwice, total, PositiveCycle}
 use Rattle.walks.proofs.PassNumber.{still, same-everywhere, agrees-of}
 use Rattle.walks.proofs.Search.{FirstBelow, found, nowhere, first, sure, not?}
@@ -39,8 +39,8 @@ module _ (arcs : List Arc) (ps : Parents) where
 
   -- its arcs end at the events of the steps
   ends-on : (j u w : ℕ) → Back u w (trail arcs ps j u) → length (trail arcs ps j u) ≡ j → (y : Arc) → List·Memᴰ y (trail arcs ps j u)
-      → (i : ℕ) × (i < j) × (y .to ≡ back arcs ps i u)
-  unfolding trail times
+      → (i : ℕ) × (i < j) × (y .to ≡ steps-back arcs ps i u)
+  unfolding trail repeated
   ends-on zero u w b l y m = absurd (List·Memᴰ·not-nil m)
   ends-on (suc j) u w b l y m =
       let (i, e) = has-parent j u l in
@@ -55,9 +55,9 @@ module _ (arcs : List Arc) (ps : Parents) where
 
   -- so no two of them end at the same one if no event is met twice
   trail-simple : (j u w : ℕ) → Back u w (trail arcs ps j u) → length (trail arcs ps j u) ≡ j
-      → ((a b : ℕ) → a < b → b < j → back arcs ps a u ≢ back arcs ps b u)
+      → ((a b : ℕ) → a < b → b < j → steps-back arcs ps a u ≢ steps-back arcs ps b u)
       → NoneTwice (trail arcs ps j u)
-  unfolding trail times
+  unfolding trail repeated
   trail-simple zero u w b l h = tt
   trail-simple (suc j) u w b l h =
       let (i, e) = has-parent j u l in
@@ -75,18 +75,18 @@ module _ (arcs : List Arc) (ps : Parents) where
 
 -- the arcs of the trail of a trapped event are a positive cycle
 pub trapped-cycle : (arcs : List Arc) (n : ℕ) (ps : Parents) (v : ℕ) (t : Trapped arcs n ps v)
-    → (c : PositiveCycle arcs n) × (c .first ∷ c .rest ≡ trail arcs ps (t .cyclic .period) (back arcs ps n v))
+    → (c : PositiveCycle arcs n) × (c .first ∷ c .rest ≡ trail arcs ps (t .cyclic .period) (steps-back arcs ps n v))
 trapped-cycle arcs n ps v t =
-    by (trail arcs ps (t .cyclic .period) (back arcs ps n v)) (t .of-arcs) (t .closed)
-    (trail-simple arcs ps (t .cyclic .period) (back arcs ps n v) (back arcs ps n v) (t .closed) (t .long) (t .cyclic .simple)) (t .long) (t .gains)
+    by (trail arcs ps (t .cyclic .period) (steps-back arcs ps n v)) (t .of-arcs) (t .closed)
+    (trail-simple arcs ps (t .cyclic .period) (steps-back arcs ps n v) (steps-back arcs ps n v) (t .closed) (t .long) (t .cyclic .simple)) (t .long) (t .gains)
   where
-    by : (l : List Arc) → ((a : Arc) → List·Memᴰ a l → List·Memᴰ a arcs) → Back (back arcs ps n v) (back arcs ps n v) l → NoneTwice l
+    by : (l : List Arc) → ((a : Arc) → List·Memᴰ a l → List·Memᴰ a arcs) → Back (steps-back arcs ps n v) (steps-back arcs ps n v) l → NoneTwice l
         → length l ≡ t .cyclic .period → pos 0 <ℤ total l
         → (c : PositiveCycle arcs n) × (c .first ∷ c .rest ≡ l)
     by [] of closed simple long gains = absurd (omega (arith, t .cyclic .positive))
     by (a ∷ as′) of closed simple long gains = (
       record {
-        at = back arcs ps n v;
+        at = steps-back arcs ps n v;
         first = a;
         rest = as′;
         of-arcs = of;

@@ -50,13 +50,13 @@ unfoldable pub before : List Arc → Parents → ℕ → ℕ
 before arcs ps v = elim (getD ps v none) [ none ↦ v | some i ↦ (getD arcs i no-arc) .from ]
 
 -- a step taken j times
-unfoldable pub times : (ℕ → ℕ) → ℕ → ℕ → ℕ
-times g zero v = v
-times g (suc j) v = times g j (g v)
+unfoldable pub repeated : (ℕ → ℕ) → ℕ → ℕ → ℕ
+repeated g zero v = v
+repeated g (suc j) v = repeated g j (g v)
 
 -- the event j steps back
-abbrev pub back : List Arc → Parents → ℕ → ℕ → ℕ
-back arcs ps j v = times (before arcs ps) j v
+abbrev pub steps-back : List Arc → Parents → ℕ → ℕ → ℕ
+steps-back arcs ps j v = repeated (before arcs ps) j v
 
 -- the arcs of those steps, the last arc of the walk first
 unfoldable pub trail : List Arc → Parents → ℕ → ℕ → List Arc
@@ -68,19 +68,19 @@ pub record Cyclic (g : ℕ → ℕ) (n x : ℕ) : Type 0 where
   pub period : ℕ
   pub positive : 0 < period
   pub short : period ≤ n
-  pub closes : times g period x ≡ x
-  pub simple : (i j : ℕ) → i < j → j < period → times g i x ≢ times g j x
+  pub closes : repeated g period x ≡ x
+  pub simple : (i j : ℕ) → i < j → j < period → repeated g i x ≢ repeated g j x
 
 -- the parents of v: none is missing however far back, n steps back lies an event on a simple cycle, and its arcs are a closed walk that gains
 pub record Trapped (arcs : List Arc) (n : ℕ) (ps : Parents) (v : ℕ) : Type 0 where
-  pub parented : (j : ℕ) → getD ps (back arcs ps j v) none ≢ none
-  pub cyclic : Cyclic (before arcs ps) n (back arcs ps n v)
-  pub of-arcs : (a : Arc) → List·Memᴰ a (trail arcs ps (cyclic .period) (back arcs ps n v)) → List·Memᴰ a arcs
-  pub closed : Back (back arcs ps n v) (back arcs ps n v) (trail arcs ps (cyclic .period) (back arcs ps n v))
-  pub long : length (trail arcs ps (cyclic .period) (back arcs ps n v)) ≡ cyclic .period
-  pub gains : pos 0 <ℤ total (trail arcs ps (cyclic .period) (back arcs ps n v))
+  pub parented : (j : ℕ) → getD ps (steps-back arcs ps j v) none ≢ none
+  pub cyclic : Cyclic (before arcs ps) n (steps-back arcs ps n v)
+  pub of-arcs : (a : Arc) → List·Memᴰ a (trail arcs ps (cyclic .period) (steps-back arcs ps n v)) → List·Memᴰ a arcs
+  pub closed : Back (steps-back arcs ps n v) (steps-back arcs ps n v) (trail arcs ps (cyclic .period) (steps-back arcs ps n v))
+  pub long : length (trail arcs ps (cyclic .period) (steps-back arcs ps n v)) ≡ cyclic .period
+  pub gains : pos 0 <ℤ total (trail arcs ps (cyclic .period) (steps-back arcs ps n v))
 
 -- Names every definition of this module, for a proof that computes with them all.
 unfoldable pub open-parents : Unit {0}
-unfolding raises adopt adopt-all parents no-arc before times trail
+unfolding raises adopt adopt-all parents no-arc before repeated trail
 open-parents = tt
