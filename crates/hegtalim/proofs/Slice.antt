@@ -79,22 +79,22 @@ drop-over a y i j e = sym (drop-drop j i (a ++ y)) ∙ ap (drop j) (drop-at a y 
 
 module _ (m k w n : ℕ) (r c p cs ts : List ℕ) where
   -- the parts, each padded
-  abbrev parts : List ℕ
-  parts = padded m r ++ (padded m c ++ (padded m p ++ (padded k cs ++ padded w ts)))
+  abbrev five-parts : List ℕ
+  five-parts = padded m r ++ (padded m c ++ (padded m p ++ (padded k cs ++ padded w ts)))
 
   -- the zeros after them
   abbrev zeros : List ℕ
-  zeros = replicate (n - length parts) 0
+  zeros = replicate (n - length five-parts) 0
 
   -- they are no shorter than their sizes together
-  parts-at-least : m + (m + (m + (k + w))) ≤ length (padded n parts)
+  parts-at-least : m + (m + (m + (k + w))) ≤ length (padded n five-parts)
   parts-at-least =
       let l3 : List ℕ = padded k cs ++ padded w ts in
       let l2 : List ℕ = padded m p ++ l3 in
       let l1 : List ℕ = padded m c ++ l2 in
       omega (
         arith,
-        padded-at-least n parts .1,
+        padded-at-least n five-parts .1,
         length-append (padded m r) l1,
         length-append (padded m c) l2,
         length-append (padded m p) l3,
@@ -108,12 +108,12 @@ module _ (m k w n : ℕ) (r c p cs ts : List ℕ) where
 
   module _ (fr : length r ≤ m) (fc : length c ≤ m) (fp : length p ≤ m) (fk : length cs ≤ k) where
     -- parts that fit fill just their sizes, and zeros the rest
-    parts-length : length ts ≤ w → m + (m + (m + (k + w))) ≤ n → length (padded n parts) ≡ n
+    parts-length : length ts ≤ w → m + (m + (m + (k + w))) ≤ n → length (padded n five-parts) ≡ n
     parts-length fw h =
         let l3 : List ℕ = padded k cs ++ padded w ts in
         let l2 : List ℕ = padded m p ++ l3 in
         let l1 : List ℕ = padded m c ++ l2 in
-        padded-length n parts (omega (
+        padded-length n five-parts (omega (
           arith,
           length-append (padded m r) l1,
           length-append (padded m c) l2,
@@ -128,25 +128,25 @@ module _ (m k w n : ℕ) (r c p cs ts : List ℕ) where
         ))
 
     -- the padded parts and the zeros, one after the other
-    in-a-row : padded n parts ≡ padded m r ++ (padded m c ++ (padded m p ++ (padded k cs ++ (padded w ts ++ zeros))))
+    in-a-row : padded n five-parts ≡ padded m r ++ (padded m c ++ (padded m p ++ (padded k cs ++ (padded w ts ++ zeros))))
     unfolding padded
     in-a-row = spread (padded m r) (padded m c) (padded m p) (padded k cs) (padded w ts) zeros
 
     -- the first part is read back
-    first-back : NoZero r → until-zero (take m (padded n parts)) ≡ r
+    first-back : NoZero r → until-zero (take m (padded n five-parts)) ≡ r
     first-back z =
         ap (λ (x : List ℕ). until-zero (take m x)) in-a-row
         ∙ until-zero-padded m r (padded m c ++ (padded m p ++ (padded k cs ++ (padded w ts ++ zeros)))) z fr
 
     -- and the second
-    second-back : NoZero c → until-zero (take m (drop m (padded n parts))) ≡ c
+    second-back : NoZero c → until-zero (take m (drop m (padded n five-parts))) ≡ c
     second-back z =
         let rest : List ℕ = padded m p ++ (padded k cs ++ (padded w ts ++ zeros)) in
         ap (λ (x : List ℕ). until-zero (take m x)) (ap (drop m) in-a-row ∙ drop-at (padded m r) (padded m c ++ rest) m (padded-length m r fr))
         ∙ until-zero-padded m c rest z fc
 
     -- past the first two
-    past-two : (j : ℕ) → drop (m + (m + j)) (padded n parts) ≡ drop j (padded m p ++ (padded k cs ++ (padded w ts ++ zeros)))
+    past-two : (j : ℕ) → drop (m + (m + j)) (padded n five-parts) ≡ drop j (padded m p ++ (padded k cs ++ (padded w ts ++ zeros)))
     past-two j =
         let rest : List ℕ = padded m p ++ (padded k cs ++ (padded w ts ++ zeros)) in
         ap (drop (m + (m + j))) in-a-row
@@ -154,23 +154,23 @@ module _ (m k w n : ℕ) (r c p cs ts : List ℕ) where
         ∙ drop-over (padded m c) rest m j (padded-length m c fc)
 
     -- the third
-    third-back : (i : ℕ) → i ≡ m + (m + 0) → NoZero p → until-zero (take m (drop i (padded n parts))) ≡ p
+    third-back : (i : ℕ) → i ≡ m + (m + 0) → NoZero p → until-zero (take m (drop i (padded n five-parts))) ≡ p
     third-back i e z =
-        ap (λ (x : List ℕ). until-zero (take m x)) (ap (λ (x : ℕ). drop x (padded n parts)) e ∙ past-two 0)
+        ap (λ (x : List ℕ). until-zero (take m x)) (ap (λ (x : ℕ). drop x (padded n five-parts)) e ∙ past-two 0)
         ∙ until-zero-padded m p (padded k cs ++ (padded w ts ++ zeros)) z fp
 
     -- the fourth
-    fourth-back : (i : ℕ) → i ≡ m + (m + m) → NoZero cs → until-zero (take k (drop i (padded n parts))) ≡ cs
+    fourth-back : (i : ℕ) → i ≡ m + (m + m) → NoZero cs → until-zero (take k (drop i (padded n five-parts))) ≡ cs
     fourth-back i e z =
         let rest : List ℕ = padded k cs ++ (padded w ts ++ zeros) in
-        ap (λ (x : List ℕ). until-zero (take k x)) (ap (λ (x : ℕ). drop x (padded n parts)) e ∙ past-two m ∙ drop-at (padded m p) rest m (padded-length m p fp))
+        ap (λ (x : List ℕ). until-zero (take k x)) (ap (λ (x : ℕ). drop x (padded n five-parts)) e ∙ past-two m ∙ drop-at (padded m p) rest m (padded-length m p fp))
         ∙ until-zero-padded k cs (padded w ts ++ zeros) z fk
 
     -- and the fifth stands after them
-    fifth-there : (i : ℕ) → i ≡ m + (m + (m + k)) → drop i (padded n parts) ≡ ts ++ (replicate (w - length ts) 0 ++ zeros)
+    fifth-there : (i : ℕ) → i ≡ m + (m + (m + k)) → drop i (padded n five-parts) ≡ ts ++ (replicate (w - length ts) 0 ++ zeros)
     unfolding padded
     fifth-there i e =
-        ap (λ (x : ℕ). drop x (padded n parts)) e ∙ past-two (m + k)
+        ap (λ (x : ℕ). drop x (padded n five-parts)) e ∙ past-two (m + k)
         ∙ drop-over (padded m p) (padded k cs ++ (padded w ts ++ zeros)) m k (padded-length m p fp)
         ∙ drop-at (padded k cs) (padded w ts ++ zeros) k (padded-length k cs fk)
         ∙ append-assoc ts (replicate (w - length ts) 0) zeros

@@ -182,27 +182,27 @@ along-at p s r m i l =
 -- ---- every bound goes between events
 
 -- both ends are events
-abbrev pub Between : Plan → Bound → Type 0
-Between p b = (b .from < event-count p) × (b .to < event-count p)
+abbrev pub BetweenEvents : Plan → Bound → Type 0
+BetweenEvents p b = (b .from < event-count p) × (b .to < event-count p)
 
 -- of each sort: its ends are the start, the finish or points of a route, and a route of a sound plan has a point
-between-sort : (p : Plan) → Sound p → (b : Bound) → Sort p b → Between p b
+between-sort : (p : Plan) → Sound p → (b : Bound) → Sort p b → BetweenEvents p b
 unfolding no-earlier last-event finish-event
 between-sort p s b (starts r m e) =
     let (least, most) = route-within p r m in
-    subst (Between p) (sym e) (omega (arith, least, most), omega (arith, some-point p s r m, most))
+    subst (BetweenEvents p) (sym e) (omega (arith, least, most), omega (arith, some-point p s r m, most))
 between-sort p s b (travels r m i) =
     let (n, l, from, to) = along-ends p s r m b i in
     let (_, most) = route-within p r m in
     (omega (arith, l, from, most), omega (arith, l, to, most))
 between-sort p s b (orders o) =
-    subst (Between p) (sym (o .is))
+    subst (BetweenEvents p) (sym (o .is))
     (event-within p leave (o .j) (o .x) (o .behind) (o .j-there) (o .leaves), event-within p approach (o .k) (o .y) (o .before) (o .k-there) (o .approaches))
 between-sort p s b (finishes r m e) =
-    let (_, most) = route-within p r m in subst (Between p) (sym e) (omega (arith, some-point p s r m, most), omega (arith, most))
+    let (_, most) = route-within p r m in subst (BetweenEvents p) (sym e) (omega (arith, some-point p s r m, most), omega (arith, most))
 
 -- of every sound plan
-pub sound-bounds-between : (p : Plan) → Sound p → (b : Bound) → List·Memᴰ b (bounds p) → Between p b
+pub sound-bounds-between : (p : Plan) → Sound p → (b : Bound) → List·Memᴰ b (bounds p) → BetweenEvents p b
 sound-bounds-between p s b m = between-sort p s b (sort-of p b m)
 
 -- of every accepted plan

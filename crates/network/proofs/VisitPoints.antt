@@ -111,10 +111,10 @@ record PointsOf (vs : List Visit) (i : ℕ) (v : Visit) (d : Point) : Type 0 whe
   approaches : getD (points vs) (3 * i + 2) d ≡ point approach (getD vs (suc i) v)
   enters : getD (points vs) (3 * i + 3) d ≡ point entry (getD vs (suc i) v)
 
-points-of : (vs : List Visit) (i : ℕ) (v : Visit) (d : Point) → suc i < length vs → PointsOf vs i v d
+points-placed : (vs : List Visit) (i : ℕ) (v : Visit) (d : Point) → suc i < length vs → PointsOf vs i v d
 unfolding points
-points-of [] i v d l = absurd (omega arith)
-points-of (x ∷ xs) i v d l =
+points-placed [] i v d l = absurd (omega arith)
+points-placed (x ∷ xs) i v d l =
     let (a, b, c) = points-after-placed x xs i v d (omega arith) in
     let at : ℕ → Point = λ n. getD (points (x ∷ xs)) n d in
     let one : 3 * i + 1 ≡ suc (3 * i) = omega arith in
@@ -136,7 +136,7 @@ pub leave-of : (r : Route) → Rising step-of (r .visits) → (i : ℕ) (v : Vis
     → event-of leave r (getD (r .visits) i v) ≡ some (r .first + (3 * i + 1))
 unfolding route-points
 leave-of r h i v l =
-    let p : PointsOf (r .visits) i v no-point = points-of (r .visits) i v no-point l in
+    let p : PointsOf (r .visits) i v no-point = points-placed (r .visits) i v no-point l in
     let room : 3 * i + 3 < length (points (r .visits)) = p .room in
     found-there r h leave (getD (r .visits) i v) (3 * i + 1) no-point (omega (arith, room)) (p .leaves)
 
@@ -145,7 +145,7 @@ pub approach-of : (r : Route) → Rising step-of (r .visits) → (i : ℕ) (v : 
     → event-of approach r (getD (r .visits) (suc i) v) ≡ some (r .first + (3 * i + 2))
 unfolding route-points
 approach-of r h i v l =
-    let p : PointsOf (r .visits) i v no-point = points-of (r .visits) i v no-point l in
+    let p : PointsOf (r .visits) i v no-point = points-placed (r .visits) i v no-point l in
     let room : 3 * i + 3 < length (points (r .visits)) = p .room in
     found-there r h approach (getD (r .visits) (suc i) v) (3 * i + 2) no-point (omega (arith, room)) (p .approaches)
 
@@ -154,7 +154,7 @@ pub entry-of : (r : Route) → Rising step-of (r .visits) → (i : ℕ) (v : Vis
     → event-of entry r (getD (r .visits) (suc i) v) ≡ some (r .first + (3 * i + 3))
 unfolding route-points
 entry-of r h i v l =
-    let p : PointsOf (r .visits) i v no-point = points-of (r .visits) i v no-point l in
+    let p : PointsOf (r .visits) i v no-point = points-placed (r .visits) i v no-point l in
     found-there r h entry (getD (r .visits) (suc i) v) (3 * i + 3) no-point (p .room) (p .enters)
 
 -- the first visit's entry is the route's first point

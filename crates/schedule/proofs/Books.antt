@@ -56,8 +56,8 @@ all-later l no-cart = no-cart
 all-later l (one-more k ks) = one-more (later-clock l k) (all-later l ks)
 
 -- a point more at the time t
-passes : {c t : ℕ} {r : Route} {ts : List ℕ} → c ≤ t → length ts < length (route-points r) → Kept c r ts → Kept t r (ts ++ (t ∷ []))
-passes {c} {t} {r} {ts} l w k =
+one-more-passed : {c t : ℕ} {r : Route} {ts : List ℕ} → c ≤ t → length ts < length (route-points r) → Kept c r ts → Kept t r (ts ++ (t ∷ []))
+one-more-passed {c} {t} {r} {ts} l w k =
     record {
       later = k .later ++ (t ∷ []);
       from-0 = ap (λ (x : List ℕ). x ++ (t ∷ [])) (k .from-0);
@@ -70,7 +70,7 @@ passes {c} {t} {r} {ts} l w k =
 pass-kept : {c t : ℕ} {rs : List Route} {tss : List (List ℕ)} (i : ℕ) → c ≤ t → AllKept c rs tss → length (getD tss i []) < getD (counts rs) i 0
     → AllKept t rs (set tss i (getD tss i [] ++ (t ∷ [])))
 pass-kept i l no-cart w = absurd (omega arith)
-pass-kept zero l (one-more k ks) w = one-more (passes l w k) (all-later l ks)
+pass-kept zero l (one-more k ks) w = one-more (one-more-passed l w k) (all-later l ks)
 pass-kept (suc i) l (one-more k ks) w = one-more (later-clock l k) (pass-kept i l ks w)
 
 next-kept : (p : Plan) (b : Book) (r : Report) → Acceptable p b r → KeptBook p b → KeptBook p (pass-next b r)
