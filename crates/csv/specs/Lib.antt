@@ -1,4 +1,5 @@
 pub mod Text
 pub mod Records
 pub mod Number
+pub mod Answers
 pub mod Open

@@ -1,6 +1,6 @@
 -- The number that a field holds (document 01, "The three tables").
 -- Assumes nothing.
-use Prim.Native.Nat.{ℕ, _+_, _*_, _-_}
+use Prim.Native.Nat.{ℕ, _+_, _*_, _-_, min, max}
 use mathlib.Core.Bool.{true, false, _&&_, cond}
 use mathlib.Core.List.{List, [], _∷_}
 use mathlib.Core.Option.{Option, none, some}
@@ -23,7 +23,21 @@ unfoldable pub numbers : List (List ℕ) → Option (List ℕ)
 numbers [] = some []
 numbers (f ∷ fs) = elim (number f) [ none ↦ none | some n ↦ elim (numbers fs) [ none ↦ none | some ns ↦ some (n ∷ ns) ] ]
 
+-- the greatest of some numbers
+unfoldable pub greatest : List ℕ → ℕ
+greatest [] = 0
+greatest (n ∷ ns) = max n (greatest ns)
+
+-- the numbers of the fields before the first that is none
+unfoldable pub leading : List (List ℕ) → List ℕ
+leading [] = []
+leading (f ∷ fs) = elim (number f) [ none ↦ [] | some n ↦ n ∷ leading fs ]
+
+-- a number as a place of four bytes holds it: those over the greatest as the greatest, which no range of a table reaches
+unfoldable pub capped : ℕ → ℕ
+capped n = min n 4_294_967_295
+
 -- Names every definition of this module, for a proof that computes with them all.
 unfoldable pub open-number : Unit {0}
-unfolding decimal number numbers
+unfolding decimal number numbers greatest leading capped
 open-number = tt

@@ -5,6 +5,7 @@ use Prim.Native.Nat.{ℕ}
 use mathlib.Core.Bool.{_&&_, cond}
 use mathlib.Core.List.{List, [], _∷_}
 use lib.Dec.{eqb}
+use lib.ListN.{drop, getD}
 
 -- a byte in front of what follows it: CR in front of LF ends a record there
 unfoldable pub push : ℕ → List (List ℕ) → List (List ℕ)
@@ -28,6 +29,10 @@ unended ((b ∷ bs) ∷ ps) = (b ∷ bs) ∷ unended ps
 unfoldable pub records : List ℕ → List (List ℕ)
 records t = unended (pieces t)
 
+-- the first record of the rest of a table: what stands before its first CR LF, or all where there is none
+unfoldable pub first-record : List ℕ → List ℕ
+first-record t = getD (pieces t) 0 []
+
 -- a byte in front of the first field
 unfoldable pub widen : ℕ → List (List ℕ) → List (List ℕ)
 widen b [] = (b ∷ []) ∷ []
@@ -38,7 +43,11 @@ unfoldable pub fields : List ℕ → List (List ℕ)
 fields [] = [] ∷ []
 fields (b ∷ bs) = cond (eqb b 44) ([] ∷ fields bs) (widen b (fields bs))
 
+-- the field that begins at place i of a record; past its end, an empty one
+unfoldable pub field-at : List ℕ → ℕ → List ℕ
+field-at r i = getD (fields (drop i r)) 0 []
+
 -- Names every definition of this module, for a proof that computes with them all.
 unfoldable pub open-records : Unit {0}
-unfolding push pieces unended records widen fields
+unfolding push pieces unended records first-record widen fields field-at
 open-records = tt

@@ -9,7 +9,7 @@ use lib.Dec.{T, eqb, eqb→eq}
 use lib.ListN.{length, take, drop, replicate, length-append, length-replicate, length-map}
 use lib.Seq.{take-at, drop-at, drop-drop}
 use Rattle.laws.proofs.Tests.{passes}
-use Rattle.words.specs.Words.{little, word, words}
+use Rattle.words.specs.Words.{little, word, words, padded}
 use Rattle.words.proofs.Reading.{word-length, words-length, little-word}
 use Rattle.csv.specs.Text.{same}
 use Rattle.csv.proofs.Text.{same-equal, same-self}
@@ -22,7 +22,7 @@ use Rattle.network.specs.Judge.{judge}
 use Rattle.network.proofs.Judged.{judged}
 use Rattle.schedule.specs.Book.{Report, Book, first-book, replay}
 use Rattle.schedule.proofs.Log.{log-carts-times, log-short}
-use Rattle.hegtalim.specs.PlanSlice.{plan-need, padded, plan-slice, until-zero, tables-in, entries, log-in, Held, nothing-else, held-by, held}
+use Rattle.hegtalim.specs.PlanSlice.{plan-need, plan-slice, until-zero, tables-in, entries, log-in, Held, nothing-else, held-by, held}
 
 -- ---- padding
 

@@ -1,12 +1,12 @@
 -- The plan slice: the tables as handed in, and the log of accepted reports (docs/DECISIONS.md, "The plan slice").
 -- Assumes nothing.
-use Prim.Native.Nat.{ℕ, _+_, _*_, _-_}
+use Prim.Native.Nat.{ℕ, _+_, _*_}
 use mathlib.Core.Bool.{Bool, true, false}
 use mathlib.Core.List.{List, [], _∷_, _++_, map}
 use mathlib.Core.Option.{Option, none, some}
 use lib.Dec.{eqb}
-use lib.ListN.{length, take, drop, replicate}
-use Rattle.words.specs.Words.{little, words}
+use lib.ListN.{length, take, drop}
+use Rattle.words.specs.Words.{little, words, padded}
 use Rattle.csv.specs.Text.{same}
 use Rattle.floor.specs.Refusal.{Judged, refused, accepted}
 use Rattle.floor.specs.Plan.{Plan}
@@ -29,10 +29,6 @@ chain-bounds-need = 2 * 4096
 -- and 1 an item for the directions
 abbrev pub chain-directions-need : ℕ
 chain-directions-need = 4096
-
--- "unused places are zero": n places that begin with these bytes
-unfoldable pub padded : ℕ → List ℕ → List ℕ
-padded n l = l ++ replicate (n - length l) 0
 
 -- what a held plan's slice of n places holds: the three tables, 65,536 places each; the carts of the reports accepted, one place each, 4,096 in
 -- all; their times, eight places each, 32,768 in all; zeros to the end
@@ -98,5 +94,5 @@ held s =
 
 -- Names every definition of this module, for a proof that computes with them all.
 unfoldable pub open-plan-slice : Unit {0}
-unfolding padded plan-slice until-zero tables-in entries log-in nothing-else held-by held
+unfolding plan-slice until-zero tables-in entries log-in nothing-else held-by held
 open-plan-slice = tt

@@ -1,8 +1,8 @@
 -- Numbers in lent memory: a fixed count of bytes each, least byte first (docs/DECISIONS.md, "Bytes at the C boundary").
 -- Assumes nothing.
-use Prim.Native.Nat.{ℕ, zero, suc, _+_, _*_, _/_, _%_}
+use Prim.Native.Nat.{ℕ, zero, suc, _+_, _*_, _-_, _/_, _%_}
 use mathlib.Core.List.{List, [], _∷_, _++_}
-use lib.ListN.{length, take, drop}
+use lib.ListN.{length, take, drop, replicate}
 
 -- the number that some bytes say
 unfoldable pub little : List ℕ → ℕ
@@ -27,7 +27,11 @@ word-at k s i = little (take k (drop (k * i) s))
 unfoldable pub written : List ℕ → List ℕ → List ℕ
 written front s = front ++ drop (length front) s
 
+-- "unused places are zero": n places that begin with these
+unfoldable pub padded : ℕ → List ℕ → List ℕ
+padded n l = l ++ replicate (n - length l) 0
+
 -- Names every definition of this module, for a proof that computes with them all.
 unfoldable pub open-words : Unit {0}
-unfolding little word words word-at written
+unfolding little word words word-at written padded
 open-words = tt
