@@ -1,4 +1,15 @@
 // Roads, carts and paths: the three tables read and judged. The definitions are in specs/.
+mod roads;
+mod carts;
+mod paths;
+mod collisions;
+
+ghost use mathlib.Core.Path.{_≡_};
+ghost use mathlib.Core.List.{List};
+ghost use Prim.Native.Nat.{ℕ, _≤_};
+ghost use lib.ListN.{length, replicate};
+ghost use Rattle.floor.specs.Tables.{Tables};
+ghost use Rattle.floor.specs.Reading.{Arrays, reading};
 
 // Why a load is turned down because of its tables; specs/Refusal.antt gives each case its number.
 pub enum Reason {
@@ -24,4 +35,23 @@ pub struct Refusal {
     pub reason: Reason,
     pub table: Table,
     pub row: usize,
+}
+
+// What the reader of the tables answers: how many roads, carts and steps there are, or why there is no plan.
+pub enum Reading {
+    Read { roads: usize, carts: usize, steps: usize },
+    TooShort,
+    Refused(Refusal),
+}
+
+// What is said of one record: it is taken, or why not.
+enum Taken {
+    Kept,
+    Refused(Reason),
+}
+
+// What is said of one table: how many there are, or the refusal.
+enum Count {
+    Read(usize),
+    Refused(Refusal),
 }
