@@ -1,1 +1,19 @@
 // The simple temporal network of a plan: its events and bounds. The definitions are in specs/.
+ghost use mathlib.Core.Path.{_≡_};
+ghost use Rattle.network.specs.Limits.{paths-within};
+
+// Whether paths keep the limits of events and bounds: `carts` of them, of `steps` cells each, one after the other.
+pub fn within_limits(cells: &[u32], carts: usize, steps: usize) -> bool
+    ensures { λ r. ⌜ r ≡ paths-within carts steps (now (cells .entry)) ⌝ }
+{
+    if 64 < carts {
+        return false;
+    }
+    if 1024 < steps {
+        return false;
+    }
+    if cells.len() < carts * steps {
+        return false;
+    }
+    true
+}
