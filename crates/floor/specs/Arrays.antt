@@ -2,7 +2,7 @@
 -- Assumes nothing.
 use Prim.Native.Nat.{ℕ, zero, suc}
 use mathlib.Core.List.{List, [], _∷_, _++_, flatMap}
-use mathlib.Core.Option.{Option, Option·getD}
+use mathlib.Core.Option.{Option, none, some, Option·getD}
 use lib.ListN.{take, drop, getD}
 use Rattle.floor.specs.Plan.{Road, Cart}
 
@@ -24,6 +24,11 @@ roads-in zero s = []
 roads-in (suc n) s =
     record { from = getD s 0 0; to = getD s 1 0; length = getD s 2 0; margin = getD s 3 0 } ∷ roads-in n (drop 4 s)
 
+-- the n carts in the front of an array
+unfoldable pub carts-in : ℕ → List ℕ → List Cart
+carts-in zero s = []
+carts-in (suc n) s = record { fastest = getD s 0 0; slowest = elim (getD s 1 0) [ zero ↦ none | suc v ↦ some (suc v) ] } ∷ carts-in n (drop 2 s)
+
 -- the n paths of w cells each in the front of an array
 unfoldable pub paths-in : ℕ → ℕ → List ℕ → List (List ℕ)
 paths-in zero w s = []
@@ -31,5 +36,5 @@ paths-in (suc n) w s = take w s ∷ paths-in n w (drop w s)
 
 -- Names every definition of this module, for a proof that computes with them all.
 unfoldable pub open-arrays : Unit {0}
-unfolding road-numbers cart-numbers path-cells roads-in paths-in
+unfolding road-numbers cart-numbers path-cells roads-in carts-in paths-in
 open-arrays = tt

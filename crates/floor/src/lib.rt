@@ -55,3 +55,22 @@ enum Count {
     Read(usize),
     Refused(Refusal),
 }
+
+// A cart's speeds, as far as the layout of its record goes.
+enum Speeds {
+    Both(u64, u64),
+    Fastest(u64),
+    Malformed,
+}
+
+// What is said of one path: it is taken, with how many cells, or why not.
+enum PathTaken {
+    Kept(usize),
+    Refused(Reason),
+}
+
+// What is said of the paths: how many there are and of how many steps, or the refusal.
+enum PathsRead {
+    Read(usize, usize),
+    Refused(Refusal),
+}
