@@ -2,3 +2,4 @@ pub mod Rows
 pub mod Records
 pub mod Text
 pub mod Bytes
+pub mod Reading
