@@ -3,3 +3,4 @@ pub mod Records
 pub mod Text
 pub mod Bytes
 pub mod Reading
+pub mod Digits
