@@ -13,7 +13,7 @@ use lib.Seq.{drop-cons, take-all, take-append-seam, drop-append-add, getD-drop, 
 use mir.Facts.{and-yes}
 use borrow.Author.Tests.{eq-eqb, ne-eqb, eqb-true, eqb-false}
 use Rattle.csv.specs.Records.{push, pieces, unended, records, first-record, widen, fields, field-at}
-use Rattle.csv.proofs.Records.{no-end, some-piece, pieces-line, pieces-last, records-line, records-last, records-none}
+use Rattle.csv.proofs.Records.{Some, no-end, some-piece, pieces-line, pieces-last, records-line, records-last, records-none}
 
 -- a part that runs to the end
 pub rest-is : (t : List ℕ) (a : ℕ) → take (length t - a) (drop a t) ≡ drop a t
@@ -164,3 +164,138 @@ records-first (b ∷ u) h = by (first-split (b ∷ u))
     by (inr (r, rest, n, q, f)) =
         let past : drop (length r + 2) (b ∷ u) ≡ rest = ap (drop (length r + 2)) q ∙ drop-append-add r (13 ∷ 10 ∷ rest) 2 in
         rw f (ap records q ∙ records-line r rest n ∙ ap (λ (x : List ℕ). r ∷ records x) (sym past))
+
+-- ---- fields
+
+-- there is always a field
+pub some-field : (r : List ℕ) → Some (fields r)
+unfolding fields widen
+some-field [] = ([], [], refl)
+some-field (b ∷ r) = by (eqb b 44) (some-field r)
+  where
+    by : (t : Bool) → Some (fields r) → Some (cond t ([] ∷ fields r) (widen b (fields r)))
+    by true (f, fs, e) = ([], fields r, refl)
+    by false (f, fs, e) = (b ∷ f, fs, ap (widen b) e)
+
+-- the first field ends at a comma, or has this byte
+field-step : (b : ℕ) (r : List ℕ) → field-at (b ∷ r) 0 ≡ cond (eqb b 44) [] (b ∷ field-at r 0)
+unfolding fields widen field-at
+field-step b r = by (eqb b 44) (some-field r)
+  where
+    by : (t : Bool) → Some (fields r) → getD (cond t ([] ∷ fields r) (widen b (fields r))) 0 [] ≡ cond t [] (b ∷ getD (fields r) 0 [])
+    by true h = refl
+    by false (f, fs, e) = rw e refl
+
+-- a field is the first of what begins at its place
+pub field-of : (r : List ℕ) (i : ℕ) → field-at r i ≡ field-at (drop i r) 0
+unfolding field-at
+field-of r i = refl
+
+-- past the end it is empty
+field-none : field-at [] 0 ≡ []
+unfolding fields field-at
+field-none = refl
+
+-- the first field is a part of the record
+field-length : (r : List ℕ) → length (field-at r 0) ≤ length r
+field-length [] = omega (arith, ap (length {A = ℕ}) field-none)
+field-length (b ∷ r) = by (eqb b 44) (field-step b r) (field-length r)
+  where
+    by : (t : Bool) → field-at (b ∷ r) 0 ≡ cond t [] (b ∷ field-at r 0) → length (field-at r 0) ≤ length r → length (field-at (b ∷ r) 0) ≤ suc (length r)
+    by true e h = rw e (omega arith)
+    by false e h = rw e (omega arith)
+
+-- and begins it
+field-front : (r : List ℕ) → take (length (field-at r 0)) r ≡ field-at r 0
+field-front [] = rw field-none refl
+field-front (b ∷ r) = by (eqb b 44) (field-step b r) (field-front r)
+  where
+    by : (t : Bool) → field-at (b ∷ r) 0 ≡ cond t [] (b ∷ field-at r 0) → take (length (field-at r 0)) r ≡ field-at r 0 → take (length (field-at (b ∷ r) 0)) (b ∷ r) ≡ field-at (b ∷ r) 0
+    by true e h = rw e refl
+    by false e h = rw e (ap (λ (x : List ℕ). b ∷ x) h)
+
+fields-step : (b : ℕ) (r : List ℕ) → fields (b ∷ r) ≡ cond (eqb b 44) ([] ∷ fields r) (widen b (fields r))
+unfolding fields
+fields-step b r = refl
+
+widened : (b : ℕ) (f : List ℕ) (fs : List (List ℕ)) → widen b (f ∷ fs) ≡ (b ∷ f) ∷ fs
+unfolding widen
+widened b f fs = refl
+
+-- a field that ends before the record does has a comma and more fields after it
+pub fields-more : (r : List ℕ) → length (field-at r 0) < length r → fields r ≡ field-at r 0 ∷ fields (drop (length (field-at r 0) + 1) r)
+fields-more [] h = absurd (not-suc-le-zero h)
+fields-more (b ∷ r) h = by (eqb b 44) (field-step b r) (fields-step b r) (fields-more r) h
+  where
+    by : (t : Bool) → field-at (b ∷ r) 0 ≡ cond t [] (b ∷ field-at r 0) → fields (b ∷ r) ≡ cond t ([] ∷ fields r) (widen b (fields r))
+        → (length (field-at r 0) < length r → fields r ≡ field-at r 0 ∷ fields (drop (length (field-at r 0) + 1) r))
+        → length (field-at (b ∷ r) 0) < suc (length r) → fields (b ∷ r) ≡ field-at (b ∷ r) 0 ∷ fields (drop (length (field-at (b ∷ r) 0) + 1) (b ∷ r))
+    by true e f more h = rw e f
+    by false e f more h =
+        let k : length (field-at r 0) < length r = omega (arith, ap (length {A = ℕ}) e) in
+        let n : length (b ∷ field-at r 0) + 1 ≡ suc (length (field-at r 0) + 1) = omega arith in
+        rw e (f ∙ ap (widen b) (more k) ∙ widened b _ _ ∙ ap (λ (j : ℕ). (b ∷ field-at r 0) ∷ fields (drop j (b ∷ r))) (sym n))
+
+-- any other is the last
+pub fields-end : (r : List ℕ) → length r ≤ length (field-at r 0) → fields r ≡ field-at r 0 ∷ []
+unfolding fields field-at
+fields-end [] h = refl
+fields-end (b ∷ r) h = by (eqb b 44) (field-step b r) (fields-step b r) (fields-end r) h
+  where
+    by : (t : Bool) → field-at (b ∷ r) 0 ≡ cond t [] (b ∷ field-at r 0) → fields (b ∷ r) ≡ cond t ([] ∷ fields r) (widen b (fields r))
+        → (length r ≤ length (field-at r 0) → fields r ≡ field-at r 0 ∷ [])
+        → suc (length r) ≤ length (field-at (b ∷ r) 0) → fields (b ∷ r) ≡ field-at (b ∷ r) 0 ∷ []
+    by true e f more h = let z : 1 ≤ 0 = omega (arith, ap (length {A = ℕ}) e) in absurd (not-suc-le-zero z)
+    by false e f more h =
+        let k : length r ≤ length (field-at r 0) = omega (arith, ap (length {A = ℕ}) e) in
+        f ∙ ap (widen b) (more k) ∙ widened b _ _ ∙ ap (λ (x : List ℕ). x ∷ []) (sym e)
+
+-- the same at a place of a record
+module _ (r : List ℕ) (i : ℕ) where
+  field-here : i < length r → field-at r i ≡ cond (eqb (getD r i 0) 44) [] (getD r i 0 ∷ field-at r (i + 1))
+  field-here h =
+      field-of r i ∙ ap (λ (x : List ℕ). field-at x 0) (drop-cons r i 0 h) ∙ field-step (getD r i 0) (drop (suc i) r)
+      ∙ ap (λ (x : List ℕ). cond (eqb (getD r i 0) 44) [] (getD r i 0 ∷ x)) (sym (field-of r (suc i)))
+      ∙ ap (λ (j : ℕ). cond (eqb (getD r i 0) 44) [] (getD r i 0 ∷ field-at r j)) (sym (add-one i))
+
+  -- a comma here ends the field
+  pub field-comma : i < length r → getD r i 0 ≡ 44 → length (field-at r i) ≡ 0
+  field-comma h k = ap (length {A = ℕ}) (field-here h) ∙ simp (eq-eqb _ _ k)
+
+  -- any other byte belongs to it
+  pub field-goes-on : i < length r → (getD r i 0 ≡ 44 → ⊥) → length (field-at r i) ≡ length (field-at r (i + 1)) + 1
+  field-goes-on h k = ap (length {A = ℕ}) (field-here h) ∙ simp (ne-eqb _ _ k, add-one)
+
+  -- the record's end ends it
+  pub field-over : length r ≤ i → field-at r i ≡ []
+  field-over h = field-of r i ∙ ap (λ (x : List ℕ). field-at x 0) (drop-of-length-le r h) ∙ field-none
+
+  -- it ends within the record
+  pub field-fits : i ≤ length r → i + length (field-at r i) ≤ length r
+  field-fits h = rw (field-of r i) (omega (arith, field-length (drop i r), length-drop i r))
+
+  -- it is what stands there
+  pub field-part : take (length (field-at r i)) (drop i r) ≡ field-at r i
+  field-part = rw (field-of r i) (field-front (drop i r))
+
+  -- it and the fields after its comma
+  pub fields-more-at : i + length (field-at r i) < length r → fields (drop i r) ≡ field-at r i ∷ fields (drop (i + length (field-at r i) + 1) r)
+  fields-more-at h =
+      let e = field-of r i in
+      let k : length (field-at (drop i r) 0) < length (drop i r) = omega (arith, ap (length {A = ℕ}) e, length-drop i r) in
+      let n : i + (length (field-at (drop i r) 0) + 1) ≡ i + length (field-at r i) + 1 = omega (arith, ap (length {A = ℕ}) e) in
+      fields-more (drop i r) k
+      ∙ ap (λ (x : List ℕ). field-at (drop i r) 0 ∷ fields x) (drop-drop (length (field-at (drop i r) 0) + 1) i r ∙ ap (λ (j : ℕ). drop j r) n)
+      ∙ ap (λ (x : List ℕ). x ∷ fields (drop (i + length (field-at r i) + 1) r)) (sym e)
+
+  -- or it alone
+  pub fields-end-at : length r ≤ i + length (field-at r i) → fields (drop i r) ≡ field-at r i ∷ []
+  fields-end-at h =
+      let e = field-of r i in
+      let k : length (drop i r) ≤ length (field-at (drop i r) 0) = omega (arith, ap (length {A = ℕ}) e, length-drop i r) in
+      fields-end (drop i r) k ∙ ap (λ (x : List ℕ). x ∷ []) (sym e)
+
+  -- in either case it is the first
+  pub fields-begin : (fs : List (List ℕ)) × (fields (drop i r) ≡ field-at r i ∷ fs)
+  unfolding field-at
+  fields-begin = let (f, fs, e) = some-field (drop i r) in (fs, e ∙ ap (λ (x : List (List ℕ)). getD x 0 [] ∷ fs) (sym e))
