@@ -2,3 +2,5 @@ pub mod Rows
 pub mod Records
 pub mod Text
 pub mod Bytes
+pub mod Reading
+pub mod Digits
