@@ -4,3 +4,4 @@ pub mod Text
 pub mod Bytes
 pub mod Reading
 pub mod Digits
+pub mod Outcome

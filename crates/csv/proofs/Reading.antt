@@ -1,5 +1,6 @@
--- What a reader that goes from left to right has of a table: its first record and the rest, by place. Assumes nothing.
-use Prim.Native.Nat.{ℕ, zero, suc, _+_, _-_, _≤_, _<_}
+-- What a reader that goes from left to right has of a table: its first record and the rest, a record's first field and the rest, by place;
+-- and what a reader may do with the numbers and answers it is handed. Assumes nothing.
+use Prim.Native.Nat.{ℕ, zero, suc, _+_, _-_, _≤_, _<_, min, max}
 use native.Mathlib.Nat.{not-suc-le-zero, le-of-suc-le-suc, le-refl}
 use native.Mathlib.Numerals.{add-one}
 use native.Mathlib.Omega.{arith}
@@ -7,12 +8,17 @@ use mathlib.Core.Path.{_≡_, refl, ap, sym, _∙_, subst}
 use mathlib.Core.Logic.{_⊎_, inl, inr}
 use mathlib.Core.Bool.{Bool, true, false, _&&_, not, cond}
 use mathlib.Core.List.{List, [], _∷_, _++_}
-use lib.Dec.{T, eqb, eqb→eq}
+use mathlib.Core.Option.{Option, none, some, Option·none-ne-some, Option·some-injective}
+use lib.Dec.{T, eqb, leb, eqb→eq}
 use lib.ListN.{length, take, drop, getD, drop-of-length-le, length-drop, length-append}
 use lib.Seq.{drop-cons, take-all, take-append-seam, drop-append-add, getD-drop, drop-drop}
 use mir.Facts.{and-yes}
-use borrow.Author.Tests.{eq-eqb, ne-eqb, eqb-true, eqb-false}
+use borrow.Author.Tests.{eq-eqb, ne-eqb, le-leb, lt-leb, leb-true, leb-false}
 use Rattle.csv.specs.Records.{push, pieces, unended, records, first-record, widen, fields, field-at}
+use Rattle.csv.specs.Number.{number, numbers, greatest, leading, capped}
+use Rattle.csv.specs.Answers.{number-answer, fields-answer}
+use Rattle.csv.specs.declared.Number.{Number}
+use Rattle.csv.specs.declared.Fields.{Fields}
 use Rattle.csv.proofs.Records.{Some, no-end, some-piece, pieces-line, pieces-last, records-line, records-last, records-none}
 
 -- a part that runs to the end
@@ -299,3 +305,99 @@ module _ (r : List ℕ) (i : ℕ) where
   pub fields-begin : (fs : List (List ℕ)) × (fields (drop i r) ≡ field-at r i ∷ fs)
   unfolding field-at
   fields-begin = let (f, fs, e) = some-field (drop i r) in (fs, e ∙ ap (λ (x : List (List ℕ)). getD x 0 [] ∷ fs) (sym e))
+
+-- ---- numbers
+
+-- whether all are at most k
+abbrev pub all-within : ℕ → List ℕ → Bool
+all-within k [] = true
+all-within k (n ∷ ns) = leb n k && all-within k ns
+
+-- of two numbers both are at most k where the greater is
+max-within : (m n k : ℕ) → (leb m k && leb n k) ≡ leb (max m n) k
+max-within m n k = by (leb m k) (leb n k) refl refl
+  where
+    by : (t u : Bool) → leb m k ≡ t → leb n k ≡ u → (t && u) ≡ leb (max m n) k
+    by true true e f =
+        let h : max m n ≤ k = omega (arith, leb-true m k e, leb-true n k f) in
+        sym (le-leb _ _ h)
+    by true false e f =
+        let h : k < max m n = omega (arith, leb-false n k f) in
+        sym (lt-leb _ _ h)
+    by false u e f =
+        let h : k < max m n = omega (arith, leb-false m k e) in
+        sym (lt-leb _ _ h)
+
+-- all are, where the greatest is
+pub greatest-within : (k : ℕ) (ns : List ℕ) → all-within k ns ≡ leb (greatest ns) k
+unfolding greatest
+greatest-within k [] = sym (le-leb 0 k (omega arith))
+greatest-within k (n ∷ ns) = ap (λ (t : Bool). leb n k && t) (greatest-within k ns) ∙ max-within n (greatest ns) k
+
+-- where all fields are numbers, those before the first that is none are all
+pub leading-all : (fs : List (List ℕ)) (ns : List ℕ) → numbers fs ≡ some ns → leading fs ≡ ns
+unfolding numbers leading
+leading-all [] ns e = Option·some-injective _ _ e
+leading-all (f ∷ fs) ns e = by (number f) (numbers fs) refl (leading-all fs) e
+  where
+    by : (o : Option ℕ) (os : Option (List ℕ)) → numbers fs ≡ os → ((ms : List ℕ) → numbers fs ≡ some ms → leading fs ≡ ms)
+        → elim o [ none ↦ none | some n ↦ elim os [ none ↦ none | some ms ↦ some (n ∷ ms) ] ] ≡ some ns
+        → elim o [ none ↦ [] | some n ↦ n ∷ leading fs ] ≡ ns
+    by none os q more e = absurd (Option·none-ne-some _ e)
+    by (some n) none q more e = absurd (Option·none-ne-some _ e)
+    by (some n) (some ms) q more e = ap (λ (x : List ℕ). n ∷ x) (more ms q) ∙ Option·some-injective _ _ e
+
+-- a number that a place of four bytes can hold is held
+pub capped-small : (n : ℕ) → n ≤ 4_294_967_295 → capped n ≡ n
+unfolding capped
+capped-small n h = omega arith
+
+-- and one that it cannot is over every bound below the greatest
+pub capped-leb : (n k : ℕ) → k < 4_294_967_295 → leb (capped n) k ≡ leb n k
+unfolding capped
+capped-leb n k h = by (leb n k) refl
+  where
+    by : (t : Bool) → leb n k ≡ t → leb (min n 4_294_967_295) k ≡ t
+    by true e = let l : min n 4_294_967_295 ≤ k = omega (arith, leb-true n k e) in le-leb _ _ l
+    by false e = let l : k < min n 4_294_967_295 = omega (arith, leb-false n k e) in lt-leb _ _ l
+
+-- ---- answers
+
+-- the number that an answer says
+number-said : Number → Option ℕ
+number-said (Number.Value n) = some n
+number-said Number.Malformed = none
+
+said-back : (o : Option ℕ) → o ≡ number-said (number-answer o)
+unfolding number-said number-answer
+said-back none = refl
+said-back (some n) = refl
+
+-- a field with this answer is this number
+pub answered-value : (o : Option ℕ) (n : ℕ) → Number.Value n ≡ number-answer o → o ≡ some n
+unfolding number-said
+answered-value o n e = said-back o ∙ ap number-said (sym e)
+
+-- and one with the other is none
+pub answered-malformed : (o : Option ℕ) → Number.Malformed ≡ number-answer o → o ≡ none
+unfolding number-said
+answered-malformed o e = said-back o ∙ ap number-said (sym e)
+
+-- how many numbers an answer says, and the greatest
+fields-said : Fields → Option (ℕ × ℕ)
+fields-said (Fields.Numbers n m) = some (n, m)
+fields-said Fields.Malformed = none
+
+-- a record with this answer has these many numbers, and this is their greatest
+pub answered-numbers : (o : Option (List ℕ)) (n m : ℕ) → Fields.Numbers n m ≡ fields-answer o → (ns : List ℕ) × (o ≡ some ns) × (n ≡ length ns) × (m ≡ greatest ns)
+unfolding fields-said fields-answer
+answered-numbers none n m e = absurd (Option·none-ne-some _ (sym (ap fields-said e)))
+answered-numbers (some ns) n m e =
+    let q = Option·some-injective _ _ (ap fields-said e) in
+    (ns, refl, ap (λ (p : ℕ × ℕ). p .0) q, ap (λ (p : ℕ × ℕ). p .1) q)
+
+-- and one with the other has a field that is none
+pub answered-none : (o : Option (List ℕ)) → Fields.Malformed ≡ fields-answer o → o ≡ none
+unfolding fields-said fields-answer
+answered-none none e = refl
+answered-none (some ns) e = absurd (Option·none-ne-some _ (ap fields-said e))
