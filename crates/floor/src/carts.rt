@@ -2,8 +2,8 @@
 use crate::Count;
 use crate::Reason;
 use crate::Refusal;
-use crate::Table;
 use crate::Speeds;
+use crate::Table;
 use crate::Taken;
 use csv::Number;
 ghost use mathlib.Core.Path.{_≡_};

@@ -1,0 +1,177 @@
+-- Records judged one after the other, in the turns of a loop: what holds before each turn, and what each way out of a turn gives.
+-- Assumes nothing.
+use Prim.Native.Nat.{ℕ, zero, suc, _+_, _*_, _-_, _≤_, _<_}
+use native.Mathlib.Nat.{sub-zero, mul-zero, mul-suc}
+use native.Mathlib.Numerals.{add-one}
+use native.Mathlib.Omega.{arith}
+use mathlib.Core.Path.{_≡_, refl, ap, sym, _∙_, subst}
+use mathlib.Core.Bool.{Bool, true, false}
+use mathlib.Core.List.{List, [], _∷_, _++_, flatMap, append-assoc, append-nil}
+use mathlib.Core.Option.{Option, none, some}
+use lib.ListN.{length, take, drop, replicate, length-append, length-replicate, length-drop, drop-of-length-le}
+use lib.Seq.{sets, sets-eq, drop-drop, take-at, drop-at}
+use Rattle.words.specs.Words.{padded}
+use Rattle.csv.specs.Records.{records, first-record}
+use Rattle.csv.proofs.Records.{records-none}
+use Rattle.csv.proofs.Reading.{records-first}
+use Rattle.floor.specs.declared.Reason.{Reason}
+use Rattle.floor.specs.declared.Table.{Table}
+use Rattle.floor.specs.declared.Refusal.{Refusal}
+use Rattle.floor.specs.declared.Taken.{Taken}
+use Rattle.floor.specs.declared.Count.{Count}
+use Rattle.floor.specs.Refusal.{Judged, refused, accepted, _>>=_, need, given, records-in-order}
+use Rattle.floor.specs.Reading.{taken, stored, counted}
+use Rattle.floor.proofs.Judging.{refused-not-accepted, accepted-same}
+
+-- ---- where a refusal is
+
+-- a refusal, if there is one, names this table and this record
+abbrev pub Says : {A : Type 0} → Table → ℕ → Judged A → Type 0
+Says t i (refused r) = r ≡ record { reason = r .reason; table = t; row = i }
+Says t i (accepted a) = Unit {0}
+
+-- a test there, and then the rest
+pub says-need : {B : Type 0} (t : Table) (i : ℕ) (b : Bool) (why : Reason) (k : Judged B) → Says t i k → Says t i (need b why t i >>= λ _. k)
+unfolding need _>>=_
+says-need t i true why k h = h
+says-need t i false why k h = refl
+
+-- a value there, and then the rest
+pub says-given : {A B : Type 0} (t : Table) (i : ℕ) (o : Option A) (why : Reason) (f : A → Judged B) → ((a : A) → Says t i (f a))
+    → Says t i (given o why t i >>= f)
+unfolding given _>>=_
+says-given t i none why f h = refl
+says-given t i (some a) why f h = h a
+
+-- the reason of a record that is not taken
+reason-of : Reason → Taken → Reason
+reason-of d Taken.Kept = d
+reason-of d (Taken.Refused why) = why
+
+-- whether one is taken
+kept : Taken → Bool
+kept Taken.Kept = true
+kept (Taken.Refused why) = false
+
+-- a record that is not taken is refused there
+pub refused-there : {A : Type 0} (t : Table) (i : ℕ) (j : Judged A) (why : Reason) → Says t i j → taken j ≡ Taken.Refused why
+    → j ≡ refused (record { reason = why; table = t; row = i })
+unfolding taken reason-of kept
+refused-there t i (refused r) why h e = ap refused (h ∙ ap (λ (x : Reason). record { reason = x; table = t; row = i }) (ap (reason-of why) e))
+refused-there t i (accepted a) why h e = let z : true ≡ false = ap kept e in absurd (subst (λ (b : Bool). elim b as (λ _. Type 0) [ true ↦ Unit {0} | false ↦ ⊥ ]) z tt)
+
+-- one that is taken is accepted as something
+pub accepted-there : {A : Type 0} (j : Judged A) → taken j ≡ Taken.Kept → (a : A) × (j ≡ accepted a)
+unfolding taken kept
+accepted-there (refused r) e = let z : false ≡ true = ap kept e in absurd (subst (λ (b : Bool). elim b as (λ _. Type 0) [ true ↦ ⊥ | false ↦ Unit {0} ]) z tt)
+accepted-there (accepted a) e = (a, refl)
+
+-- ---- numbers in front of zeros
+
+-- an array of zeros holds nothing yet
+pub padded-none : (n : ℕ) → padded n [] ≡ replicate n 0
+unfolding padded
+padded-none n = ap (λ (k : ℕ). replicate k 0) (sub-zero n)
+
+-- zeros after some zeros
+zeros-after : (k n : ℕ) → drop k (replicate {A = ℕ} n 0) ≡ replicate (n - k) 0
+zeros-after zero n = ap (λ (i : ℕ). replicate i 0) (sym (sub-zero n))
+zeros-after (suc k) zero = ap (λ (i : ℕ). replicate i 0) {x = 0} {y = 0 - suc k} (omega arith)
+zeros-after (suc k) (suc n) = zeros-after k n ∙ ap (λ (i : ℕ). replicate i 0) {x = n - k} {y = suc n - suc k} (omega arith)
+
+padded-length : (n : ℕ) (l : List ℕ) → length l ≤ n → length (padded n l) ≡ n
+unfolding padded
+padded-length n l h = omega (arith, length-append l (replicate (n - length l) 0), length-replicate {A = ℕ} (n - length l) 0)
+
+-- numbers stored behind those that are there
+pub padded-more : (n : ℕ) (l vs : List ℕ) → length l + length vs ≤ n → sets (padded n l) (length l) vs ≡ padded n (l ++ vs)
+unfolding padded
+padded-more n l vs h =
+    let z : List ℕ = replicate (n - length l) 0 in
+    let front : take (length l) (padded n l) ≡ l = take-at l z (length l) refl in
+    let back : drop (length l + length vs) (padded n l) ≡ replicate (n - length (l ++ vs)) 0 =
+    sym (drop-drop (length vs) (length l) (padded n l)) ∙ ap (drop (length vs)) (drop-at l z (length l) refl) ∙ zeros-after (length vs) (n - length l)
+    ∙ ap (λ (k : ℕ). replicate k 0) {x = n - length l - length vs} {y = n - length (l ++ vs)} (omega (arith, length-append l vs)) in
+    sets-eq vs (padded n l) (length l) (omega (arith, h, padded-length n l (omega arith)))
+    ∙ ap (λ (x : List ℕ). x ++ vs ++ drop (length l + length vs) (padded n l)) front
+    ∙ ap (λ (x : List ℕ). l ++ vs ++ x) back
+
+-- the numbers of one more
+flat-more : {A : Type 0} (numbers : A → List ℕ) (as′ : List A) (a : A) → flatMap numbers (as′ ++ (a ∷ [])) ≡ flatMap numbers as′ ++ numbers a
+unfolding flatMap
+flat-more numbers [] a = append-nil (numbers a)
+flat-more numbers (x ∷ xs) a = ap (λ (l : List ℕ). numbers x ++ l) (flat-more numbers xs a) ∙ sym (append-assoc (numbers x) (flatMap numbers xs) (numbers a))
+
+-- of as many numbers each, they are so many in all
+pub flat-length : {A : Type 0} (numbers : A → List ℕ) (k : ℕ) → ((a : A) → length (numbers a) ≡ k) → (as′ : List A) → length (flatMap numbers as′) ≡ k * length as′
+unfolding flatMap
+flat-length numbers k h [] = omega (arith, mul-zero k)
+flat-length numbers k h (x ∷ xs) =
+    omega (arith, length-append (numbers x) (flatMap numbers xs), h x, flat-length numbers k h xs, mul-suc k (length xs))
+
+-- ---- the turns
+
+-- what holds before a turn: those taken before are n, their numbers stand in the array, and the rest of the table says what the whole does
+pub record Turn {A : Type 0} (judge : List A → List ℕ → Judged A) (numbers : A → List ℕ) (whole : Judged (List A)) (t : List ℕ) (size : ℕ) (s : List ℕ) (at n : ℕ) : Type 0 where
+  pub before : List A
+  pub count : length before ≡ n
+  pub held : s ≡ padded size (flatMap numbers before)
+  pub rest : whole ≡ records-in-order judge before (records (drop at t))
+
+module _ {A : Type 0} (judge : List A → List ℕ → Judged A) (numbers : A → List ℕ) where
+  -- before the first
+  pub first-turn : (t s : List ℕ) (at : ℕ) → s ≡ replicate (length s) 0
+      → Turn judge numbers (records-in-order judge [] (records (drop at t))) t (length s) s at 0
+  unfolding flatMap
+  first-turn t s at z = record { before = []; count = refl; held = z ∙ sym (padded-none (length s)); rest = refl }
+
+  -- the answer and the array at the end
+  abbrev pub Ends : Judged (List A) → ℕ → Count → List ℕ → Type 0
+  Ends whole size r s = (r ≡ counted whole) × ((as′ : List A) → whole ≡ accepted as′ → s ≡ padded size (flatMap numbers as′))
+
+  -- after the last
+  pub last-turn : (whole : Judged (List A)) (t : List ℕ) (size : ℕ) (s : List ℕ) (at n : ℕ) → Turn judge numbers whole t size s at n → length t ≤ at
+      → Ends whole size (Count.Read n) s
+  unfolding records-in-order counted
+  last-turn whole t size s at n u h =
+      let e : whole ≡ accepted (u .before) =
+      u .rest ∙ ap (λ (x : List ℕ). records-in-order judge (u .before) (records x)) (drop-of-length-le t h) ∙ ap (records-in-order judge (u .before)) records-none in
+      (ap Count.Read (sym (u .count)) ∙ sym (ap counted e), λ as′ f. u .held ∙ ap (λ (x : List A). padded size (flatMap numbers x)) (accepted-same _ _ (sym e ∙ f)))
+
+  -- the record whose turn it is, and the rest
+  turn-is : (before : List A) (t : List ℕ) (at : ℕ) → at < length t
+      → records-in-order judge before (records (drop at t))
+      ≡ (judge before (first-record (drop at t)) >>= λ a. records-in-order judge (before ++ (a ∷ [])) (records (drop (at + length (first-record (drop at t)) + 2) t)))
+  unfolding records-in-order
+  turn-is before t at h =
+      let d : List ℕ = drop at t in
+      let k : ℕ = length (first-record d) in
+      ap (records-in-order judge before) (records-first d (omega (arith, length-drop at t)))
+      ∙ ap (λ (x : List ℕ). judge before (first-record d) >>= λ a. records-in-order judge (before ++ (a ∷ [])) (records x))
+      (drop-drop (k + 2) at t ∙ ap (λ (i : ℕ). drop i t) {x = at + (k + 2)} {y = at + k + 2} (omega arith))
+
+  -- a record that is refused ends it
+  pub refused-turn : (whole : Judged (List A)) (t : List ℕ) (size : ℕ) (s s′ : List ℕ) (at n : ℕ) (u : Turn judge numbers whole t size s at n) → at < length t
+      → (r : Refusal) → judge (u .before) (first-record (drop at t)) ≡ refused r → Ends whole size (Count.Refused r) s′
+  unfolding _>>=_ counted
+  refused-turn whole t size s s′ at n u h r j =
+      let e : whole ≡ refused r = u .rest ∙ turn-is (u .before) t at h ∙ ap (λ (x : Judged A). x >>= λ a. records-in-order judge (u .before ++ (a ∷ [])) (records (drop (at + length (first-record (drop at t)) + 2) t))) j in
+      (sym (ap counted e), λ as′ f. absurd (refused-not-accepted r as′ (sym e ∙ f)))
+
+  -- one that is taken goes before the next
+  pub taken-turn : (whole : Judged (List A)) (t : List ℕ) (size : ℕ) (s s′ : List ℕ) (at n : ℕ) (u : Turn judge numbers whole t size s at n) → at < length t
+      → (a : A) → judge (u .before) (first-record (drop at t)) ≡ accepted a
+      → length (flatMap numbers (u .before)) + length (numbers a) ≤ size
+      → s′ ≡ sets s (length (flatMap numbers (u .before))) (numbers a)
+      → Turn judge numbers whole t size s′ (at + length (first-record (drop at t)) + 2) (n + 1)
+  unfolding _>>=_
+  taken-turn whole t size s s′ at n u h a j room put =
+      let l : List ℕ = flatMap numbers (u .before) in
+      record {
+        before = u .before ++ (a ∷ []);
+        count = omega (arith, length-append (u .before) (a ∷ []), u .count);
+        held = put ∙ ap (λ (x : List ℕ). sets x (length l) (numbers a)) (u .held) ∙ padded-more size l (numbers a) room ∙ ap (padded size) (sym (flat-more numbers (u .before) a));
+        rest =
+            u .rest ∙ turn-is (u .before) t at h
+            ∙ ap (λ (x : Judged A). x >>= λ a. records-in-order judge (u .before ++ (a ∷ [])) (records (drop (at + length (first-record (drop at t)) + 2) t))) j;
+      }
