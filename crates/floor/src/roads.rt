@@ -4,7 +4,6 @@ use crate::Reason;
 use crate::Refusal;
 use crate::Table;
 use crate::Taken;
-use csv::Fields;
 ghost use mathlib.Core.Path.{_≡_};
 ghost use mathlib.Core.List.{List, flatMap};
 ghost use Prim.Native.Nat.{ℕ, _+_, _*_, _≤_};
