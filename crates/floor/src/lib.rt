@@ -1,8 +1,8 @@
 // Roads, carts and paths: the three tables read and judged. The definitions are in specs/.
-mod roads;
 mod carts;
-mod paths;
 mod collisions;
+mod paths;
+mod roads;
 
 ghost use mathlib.Core.Path.{_≡_};
 ghost use mathlib.Core.List.{List};
@@ -39,7 +39,11 @@ pub struct Refusal {
 
 // What the reader of the tables answers: how many roads, carts and steps there are, or why there is no plan.
 pub enum Reading {
-    Read { roads: usize, carts: usize, steps: usize },
+    Read {
+        roads: usize,
+        carts: usize,
+        steps: usize,
+    },
     TooShort,
     Refused(Refusal),
 }
