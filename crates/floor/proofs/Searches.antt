@@ -9,9 +9,10 @@ use mathlib.Core.List.{List, [], _∷_}
 use mathlib.Core.Option.{none, some}
 use borrow.Author.Tests.{eq-eqb, ne-eqb, eqb-true}
 use lib.Dec.{eqb}
-use lib.ListN.{drop, getD}
-use lib.Seq.{getD-drop, drop-drop}
+use lib.ListN.{length, take, drop, getD, length-take, length-drop}
+use lib.Seq.{getD-take, getD-drop, drop-drop}
 use Rattle.floor.specs.Plan.{Road, joins, road-between, joined}
+use Rattle.floor.specs.Paths.{on-roads}
 use Rattle.floor.specs.Arrays.{roads-in}
 
 -- ---- roads
@@ -37,6 +38,11 @@ roads-next n i s h =
     let more : 4 * i + 4 ≡ 4 * (i + 1) = omega arith in
     rw e (simp (getD-drop, drop-drop, first, more))
 
+-- the second of two tests is enough
+either : (t : Bool) → t || true ≡ true
+either true = refl
+either false = refl
+
 -- both tests of a road between x and y
 joins-test : ℕ → ℕ → ℕ → ℕ → Bool
 joins-test x y a b = (eqb x a && eqb y b) || (eqb x b && eqb y a)
@@ -48,10 +54,6 @@ joins-forth x y a b p q = rw (eq-eqb x a p, eq-eqb y b q)
 joins-back : (x y a b : ℕ) → x ≡ b → y ≡ a → joins-test x y a b ≡ true
 unfolding joins-test
 joins-back x y a b p q = rw (eq-eqb x b p, eq-eqb y a q) (either (eqb x a && eqb y b))
-  where
-    either : (t : Bool) → t || true ≡ true
-    either true = refl
-    either false = refl
 
 both-fail : (x y a b : ℕ) → (x ≡ a → y ≡ b → ⊥) → eqb x a && eqb y b ≡ false
 both-fail x y a b h = by (eqb x a) refl
@@ -89,3 +91,59 @@ road-passed n i s a b h f g = joined-next n i s a b false h (joins-neither _ _ a
 pub roads-past : (n i : ℕ) (s : List ℕ) (a b : ℕ) → n ≤ i → joined (roads-in (n - i) (drop (4 * i) s)) a b ≡ false
 unfolding roads-in joined road-between
 roads-past n i s a b h = let e : n - i ≡ 0 = omega arith in rw e
+
+-- ---- paths that keep to roads
+
+-- a step on the roads, and those after it
+on-roads-next : (rs : List Road) (p : List ℕ) (k : ℕ) → suc k < length p
+    → on-roads rs (drop k p) ≡ (eqb (getD p k 0) (getD p (suc k) 0) || joined rs (getD p k 0) (getD p (suc k) 0)) && on-roads rs (drop (suc k) p)
+unfolding on-roads
+on-roads-next rs [] k h = absurd (omega arith)
+on-roads-next rs (a ∷ []) k h = absurd (omega arith)
+on-roads-next rs (a ∷ b ∷ cs) zero h = refl
+on-roads-next rs (a ∷ b ∷ cs) (suc k) h = on-roads-next rs (b ∷ cs) k (omega arith)
+
+-- at most one cell has no step
+on-roads-short : (rs : List Road) (p : List ℕ) → length p ≤ 1 → on-roads rs p ≡ true
+unfolding on-roads
+on-roads-short rs [] h = refl
+on-roads-short rs (a ∷ []) h = refl
+on-roads-short rs (a ∷ b ∷ cs) h = absurd (omega arith)
+
+-- the cells from step s on of a path of w cells that begins at a place of an array
+abbrev pub path-from : List ℕ → ℕ → ℕ → ℕ → List ℕ
+path-from cells at w s = drop s (take w (drop at cells))
+
+module _ (rs : List Road) (cells : List ℕ) (at w : ℕ) where
+  -- the step to s, tested, and those after it
+  step-next : (s : ℕ) (t : Bool) → 1 ≤ s → s < w → at + w ≤ length cells
+      → eqb (getD cells (at + s - 1) 0) (getD cells (at + s) 0) || joined rs (getD cells (at + s - 1) 0) (getD cells (at + s) 0) ≡ t
+      → on-roads rs (path-from cells at w (s - 1)) ≡ t && on-roads rs (path-from cells at w (s + 1 - 1))
+  step-next s t least below fits e =
+      let p : List ℕ = take w (drop at cells) in
+      let one : suc (s - 1) ≡ s = omega arith in
+      let same : s + 1 - 1 ≡ s = omega arith in
+      let before : at + (s - 1) ≡ at + s - 1 = omega arith in
+      let long : suc (s - 1) < length p = simp (length-take, length-drop) (omega arith) in
+      let a : getD p (s - 1) 0 ≡ getD cells (at + s - 1) 0 = getD-take w (drop at cells) (s - 1) 0 (omega arith) ∙ getD-drop at cells (s - 1) 0 ∙ ap (λ (j : ℕ). getD cells j 0) before in
+      let b : getD p s 0 ≡ getD cells (at + s) 0 = getD-take w (drop at cells) s 0 below ∙ getD-drop at cells s 0 in
+      on-roads-next rs p (s - 1) long ∙ rw (one, same, a, b, e)
+
+  -- a step that stays
+  pub step-stays : (s : ℕ) → 1 ≤ s → s < w → at + w ≤ length cells → getD cells (at + s - 1) 0 ≡ getD cells (at + s) 0
+      → on-roads rs (path-from cells at w (s - 1)) ≡ on-roads rs (path-from cells at w (s + 1 - 1))
+  step-stays s least below fits e = step-next s true least below fits (rw (eq-eqb _ _ e))
+
+  -- a step on a road
+  pub step-on : (s : ℕ) → 1 ≤ s → s < w → at + w ≤ length cells → joined rs (getD cells (at + s - 1) 0) (getD cells (at + s) 0) ≡ true
+      → on-roads rs (path-from cells at w (s - 1)) ≡ on-roads rs (path-from cells at w (s + 1 - 1))
+  step-on s least below fits e = step-next s true least below fits (rw e (either (eqb (getD cells (at + s - 1) 0) (getD cells (at + s) 0))))
+
+  -- a step off the roads
+  pub step-off : (s : ℕ) → 1 ≤ s → s < w → at + w ≤ length cells → (getD cells (at + s - 1) 0 ≡ getD cells (at + s) 0 → ⊥)
+      → joined rs (getD cells (at + s - 1) 0) (getD cells (at + s) 0) ≡ false → on-roads rs (path-from cells at w (s - 1)) ≡ false
+  step-off s least below fits h e = step-next s false least below fits (rw (ne-eqb _ _ h, e))
+
+  -- after the last step
+  pub steps-past : (s : ℕ) → w ≤ s → on-roads rs (path-from cells at w (s - 1)) ≡ true
+  steps-past s h = on-roads-short rs (path-from cells at w (s - 1)) (simp (length-drop, length-take) (omega arith))
