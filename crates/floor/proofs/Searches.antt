@@ -2,6 +2,7 @@
 -- Assumes nothing.
 use Prim.Native.Nat.{ℕ, zero, suc, _+_, _*_, _-_, _≤_, _<_}
 use native.Mathlib.Numerals.{add-one}
+use native.Mathlib.Nat.{mul-le-mul-right, add-mul}
 use native.Mathlib.Omega.{arith}
 use mathlib.Core.Path.{_≡_, refl, ap, sym, _∙_}
 use mathlib.Core.Bool.{Bool, true, false, _&&_, _||_, cond}
@@ -12,8 +13,8 @@ use lib.Dec.{eqb}
 use lib.ListN.{length, take, drop, getD, length-take, length-drop}
 use lib.Seq.{getD-take, getD-drop, drop-drop}
 use Rattle.floor.specs.Plan.{Road, joins, road-between, joined}
-use Rattle.floor.specs.Paths.{on-roads}
-use Rattle.floor.specs.Arrays.{roads-in}
+use Rattle.floor.specs.Paths.{on-roads, off-road}
+use Rattle.floor.specs.Arrays.{roads-in, paths-in}
 
 -- ---- roads
 
@@ -147,3 +148,34 @@ module _ (rs : List Road) (cells : List ℕ) (at w : ℕ) where
   -- after the last step
   pub steps-past : (s : ℕ) → w ≤ s → on-roads rs (path-from cells at w (s - 1)) ≡ true
   steps-past s h = on-roads-short rs (path-from cells at w (s - 1)) (simp (length-drop, length-take) (omega arith))
+
+-- ---- paths of an array
+
+-- the cells of path i are among those of n paths
+pub path-fits : (i n w : ℕ) → i < n → i * w + w ≤ n * w
+path-fits i n w h = let e : (i + 1) * w ≤ n * w = mul-le-mul-right w (omega arith) in omega (arith, add-mul i 1 w)
+
+-- the path at a place of an array, tested, and those after it
+off-road-next : (rs : List Road) (n w i at : ℕ) (s : List ℕ) (t : Bool) → i < n → on-roads rs (take w (drop at s)) ≡ t
+    → off-road rs (i + 1) (paths-in (n - i) w (drop at s))
+    ≡ cond t (off-road rs (i + 1 + 1) (paths-in (n - (i + 1)) w (drop (at + w) s))) (some (i + 1))
+unfolding off-road paths-in
+off-road-next rs n w i at s t h e =
+    let l : n - i ≡ suc (n - (i + 1)) = omega arith in
+    let m : suc (i + 1) ≡ i + 1 + 1 = omega arith in
+    rw (l, e, drop-drop, m)
+
+-- a path that keeps to the roads is passed over
+pub path-on : (rs : List Road) (n w i at : ℕ) (s : List ℕ) → i < n → on-roads rs (take w (drop at s)) ≡ true
+    → off-road rs (i + 1) (paths-in (n - i) w (drop at s)) ≡ off-road rs (i + 1 + 1) (paths-in (n - (i + 1)) w (drop (at + w) s))
+path-on rs n w i at s h e = off-road-next rs n w i at s true h e
+
+-- one that leaves them is found
+pub path-off : (rs : List Road) (n w i at : ℕ) (s : List ℕ) → i < n → on-roads rs (take w (drop at s)) ≡ false
+    → off-road rs (i + 1) (paths-in (n - i) w (drop at s)) ≡ some (i + 1)
+path-off rs n w i at s h e = off-road-next rs n w i at s false h e
+
+-- after the last path
+pub paths-past : (rs : List Road) (n w i at : ℕ) (s : List ℕ) → n ≤ i → off-road rs (i + 1) (paths-in (n - i) w (drop at s)) ≡ none
+unfolding off-road paths-in
+paths-past rs n w i at s h = let e : n - i ≡ 0 = omega arith in rw e
