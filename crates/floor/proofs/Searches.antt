@@ -2,18 +2,19 @@
 -- Assumes nothing.
 use Prim.Native.Nat.{ℕ, zero, suc, _+_, _*_, _-_, _≤_, _<_}
 use native.Mathlib.Numerals.{add-one}
-use native.Mathlib.Nat.{mul-le-mul-right, add-mul}
+use native.Mathlib.Nat.{mul-le-mul-right, add-mul, zero-mul, suc-mul}
 use native.Mathlib.Omega.{arith}
 use mathlib.Core.Path.{_≡_, refl, ap, sym, _∙_}
 use mathlib.Core.Bool.{Bool, true, false, _&&_, _||_, cond}
-use mathlib.Core.List.{List, [], _∷_}
-use mathlib.Core.Option.{none, some}
+use mathlib.Core.List.{List, [], _∷_, map}
+use mathlib.Core.Option.{Option, none, some}
 use borrow.Author.Tests.{eq-eqb, ne-eqb, eqb-true}
 use lib.Dec.{eqb}
-use lib.ListN.{length, take, drop, getD, length-take, length-drop}
-use lib.Seq.{getD-take, getD-drop, drop-drop}
+use lib.ListN.{length, take, drop, getD, length-take, length-drop, drop-of-length-le}
+use lib.Seq.{length-take-le, take-suc, drop-cons, getD-take, getD-drop, drop-drop}
 use Rattle.floor.specs.Plan.{Road, joins, road-between, joined}
-use Rattle.floor.specs.Paths.{on-roads, off-road}
+use Rattle.floor.specs.Refusal.{next}
+use Rattle.floor.specs.Paths.{on-roads, off-road, collides, first-collision, earliest, at-step, steps}
 use Rattle.floor.specs.Arrays.{roads-in, paths-in}
 
 -- ---- roads
@@ -179,3 +180,127 @@ path-off rs n w i at s h e = off-road-next rs n w i at s false h e
 pub paths-past : (rs : List Road) (n w i at : ℕ) (s : List ℕ) → n ≤ i → off-road rs (i + 1) (paths-in (n - i) w (drop at s)) ≡ none
 unfolding off-road paths-in
 paths-past rs n w i at s h = let e : n - i ≡ 0 = omega arith in rw e
+
+-- ---- collisions
+
+-- what a list of n has at its places
+pub record Placed {A : Type 0} (xs : List A) (n : ℕ) (at : ℕ → A) : Type 0 where
+  pub count : length xs ≡ n
+  pub there : (d : A) (i : ℕ) → i < n → getD xs i d ≡ at i
+
+module _ {A : Type 0} {xs : List A} {n : ℕ} {at : ℕ → A} (f : A → A → Bool) (v : Placed xs n at) where
+  -- x held against those before i from place k on: the one there, and those after it
+  collides-next : (x : A) (i k : ℕ) (t : Bool) → k < i → i < n → f x (at k) ≡ t
+      → collides f x (drop k (take i xs)) ≡ t || collides f x (drop (k + 1) (take i xs))
+  unfolding collides
+  collides-next x i k t h l e =
+      let below : k < length (take i xs) = simp length-take (omega (arith, v .count)) in
+      let here : getD (take i xs) k (at k) ≡ at k = getD-take i xs k (at k) h ∙ v .there (at k) k (omega arith) in
+      rw (add-one, drop-cons (take i xs) k (at k) below, here, e)
+
+  -- one that x does not collide with is passed over
+  pub other-passed : (x : A) (i k : ℕ) → k < i → i < n → f x (at k) ≡ false
+      → collides f x (drop k (take i xs)) ≡ collides f x (drop (k + 1) (take i xs))
+  other-passed x i k h l e = collides-next x i k false h l e
+
+  -- the one at place i, tested, and those after it
+  first-next : (i : ℕ) (t : Bool) → i < n → collides f (at i) (take i xs) ≡ t
+      → first-collision f (take i xs) (drop i xs) ≡ cond t (some (i + 1)) (first-collision f (take (i + 1) xs) (drop (i + 1) xs))
+  unfolding first-collision next
+  first-next i t h e =
+      let below : i < length xs = omega (arith, v .count) in
+      let here : getD xs i (at i) ≡ at i = v .there (at i) i h in
+      let long : length (take i xs) ≡ i = length-take-le i xs (omega arith) in
+      rw (add-one, drop-cons xs i (at i) below, take-suc xs i (at i) below, here, e, long)
+
+  -- one that collides with none of those before it is passed over
+  pub record-passed : (i k : ℕ) → i < n → i ≤ k → collides f (at i) (take i xs) ≡ collides f (at i) (drop k (take i xs))
+      → first-collision f (take i xs) (drop i xs) ≡ first-collision f (take (i + 1) xs) (drop (i + 1) xs)
+  unfolding collides
+  record-passed i k h l e =
+      let none-left : drop k (take i xs) ≡ [] = drop-of-length-le (take i xs) {i = k} (simp length-take (omega arith)) in
+      first-next i false h (e ∙ rw none-left)
+
+  -- one that collides with the one at place k is found
+  pub record-found : (i k : ℕ) → k < i → i < n → collides f (at i) (take i xs) ≡ collides f (at i) (drop k (take i xs)) → f (at i) (at k) ≡ true
+      → first-collision f (take i xs) (drop i xs) ≡ some (i + 1)
+  record-found i k l h e met = first-next i true h (e ∙ collides-next (at i) i k true l h met)
+
+  -- after the last
+  pub records-past : (i : ℕ) → n ≤ i → first-collision f (take i xs) (drop i xs) ≡ none
+  unfolding first-collision
+  records-past i h =
+      let none-left : drop i xs ≡ [] = drop-of-length-le xs {i = i} (omega (arith, v .count)) in
+      rw none-left
+
+-- ---- steps
+
+-- one step, and those after it
+earliest-next : (f : ℕ → Option ℕ) (s n : ℕ) (o : Option ℕ) → f s ≡ o
+    → _≡_ {A = Option ℕ} (earliest f s (suc n)) (elim o [ none ↦ earliest f (suc s) n | some i ↦ some i ])
+unfolding earliest
+earliest-next f s n o e = ap (λ (x : Option ℕ). elim x as (λ _. Option ℕ) [ none ↦ earliest f (suc s) n | some i ↦ some i ]) e
+
+-- a step at which nothing is found is passed over
+pub step-passed : (f : ℕ → Option ℕ) (s n : ℕ) → f s ≡ none → earliest f s (n - s) ≡ earliest f (s + 1) (n - (s + 1))
+unfolding earliest
+step-passed f s n e = by (n - s) refl
+  where
+    by : (m : ℕ) → n - s ≡ m → earliest f s m ≡ earliest f (s + 1) (n - (s + 1))
+    by zero q = let z : n - (s + 1) ≡ 0 = omega arith in rw z
+    by (suc m) q = let z : n - (s + 1) ≡ m = omega arith in rw (z, add-one) (earliest-next f s m none e)
+
+-- what is found at a step is the answer
+pub step-found : (f : ℕ → Option ℕ) (s n i : ℕ) → s < n → f s ≡ some i → earliest f s (n - s) ≡ some i
+unfolding earliest
+step-found f s n i h e = let z : n - s ≡ suc (n - (s + 1)) = omega arith in rw z (earliest-next f s (n - (s + 1)) (some i) e)
+
+-- after the last step
+pub steps-over : (f : ℕ → Option ℕ) (s n : ℕ) → n ≤ s → earliest f s (n - s) ≡ none
+unfolding earliest
+steps-over f s n h = let z : n - s ≡ 0 = omega arith in rw z
+
+-- ---- what the paths of an array have at a step
+
+-- the cells that n paths have at step t
+abbrev pub cells-at : ℕ → ℕ → List ℕ → ℕ → List ℕ
+cells-at n w s t = map (at-step t) (paths-in n w s)
+
+-- of each path
+image-at : {A : Type 0} (g : List ℕ → A) (n w : ℕ) (s : List ℕ) (d : A) (i : ℕ) → i < n
+    → getD (map g (paths-in n w s)) i d ≡ g (take w (drop (i * w) s))
+unfolding paths-in
+image-at g zero w s d i h = absurd (omega arith)
+image-at g (suc n) w s d zero h = rw zero-mul
+image-at g (suc n) w s d (suc i) h =
+    let e : w + i * w ≡ suc i * w = omega (arith, suc-mul i w) in
+    image-at g n w (drop w s) d i (omega arith) ∙ rw (drop-drop, e)
+
+images-count : {A : Type 0} (g : List ℕ → A) (n w : ℕ) (s : List ℕ) → length (map g (paths-in n w s)) ≡ n
+unfolding paths-in
+images-count g zero w s = refl
+images-count g (suc n) w s = ap suc (images-count g n w (drop w s))
+
+-- the cell of path i at step t
+cell-at : (w : ℕ) (s : List ℕ) (i t : ℕ) → t < w → at-step t (take w (drop (i * w) s)) ≡ getD s (i * w + t) 0
+unfolding at-step
+cell-at w s i t h = getD-take w (drop (i * w) s) t 0 h ∙ getD-drop (i * w) s t 0
+
+-- at most w steps, and w if there is a path
+pub steps-most : (n w : ℕ) (s : List ℕ) → steps (paths-in n w s) ≤ w
+unfolding steps paths-in
+steps-most zero w s = omega arith
+steps-most (suc n) w s = simp length-take (omega arith)
+
+pub steps-all : (n w : ℕ) (s : List ℕ) → 0 < n → n * w ≤ length s → steps (paths-in n w s) ≡ w
+unfolding steps paths-in
+steps-all zero w s h l = absurd (omega arith)
+steps-all (suc n) w s h l = length-take-le w s (omega (arith, suc-mul n w))
+
+-- the cells at step t
+pub cells-placed : (n w : ℕ) (s : List ℕ) (t : ℕ) → t < w → Placed (cells-at n w s t) n (λ i. getD s (i * w + t) 0)
+cells-placed n w s t h =
+    record {
+      count = images-count (at-step t) n w s;
+      there = λ d i l. image-at (at-step t) n w s d i l ∙ cell-at w s i t h;
+    }
