@@ -72,6 +72,50 @@ pub none-found-accepted : {B : Type 0} (o : Option ℕ) (why : Reason) (k : Judg
 none-found-accepted o why k b e =
     let (u, nothing, rest) = bind-accepted (unless-found o why) (λ _. k) b e in (unless-found-accepted o why u nothing, rest)
 
+-- ---- the judgement, step by step
+
+-- a test that passes is passed over
+pub pass : {B : Type 0} (t : Bool) (why : Reason) (table : Table) (i : ℕ) (k : Judged B) → t ≡ true → (need t why table i >>= λ _. k) ≡ k
+unfolding need _>>=_
+pass {B} t why table i k e = ap (λ (x : Bool). need x why table i >>= λ _. k) e
+
+-- one that fails stops there
+pub stop : {B : Type 0} (t : Bool) (why : Reason) (table : Table) (i : ℕ) (k : Judged B) → t ≡ false
+    → (need t why table i >>= λ _. k) ≡ refused (record { reason = why; table = table; row = i })
+unfolding need _>>=_
+stop {B} t why table i k e = ap (λ (x : Bool). need x why table i >>= λ _. k) e
+
+-- a value that is there is handed on
+pub got : {A B : Type 0} (o : Option A) (why : Reason) (table : Table) (i : ℕ) (f : A → Judged B) (a : A) → o ≡ some a → (given o why table i >>= f) ≡ f a
+unfolding given _>>=_
+got {A} o why table i f a e = ap (λ (x : Option A). given x why table i >>= f) e
+
+-- one that is not stops there
+pub lacks : {A B : Type 0} (o : Option A) (why : Reason) (table : Table) (i : ℕ) (f : A → Judged B) → o ≡ none
+    → (given o why table i >>= f) ≡ refused (record { reason = why; table = table; row = i })
+unfolding given _>>=_
+lacks {A} o why table i f e = ap (λ (x : Option A). given x why table i >>= f) e
+
+-- a search that finds nothing is passed over
+pub clear : {B : Type 0} (o : Option ℕ) (why : Reason) (k : Judged B) → o ≡ none → (unless-found o why >>= λ _. k) ≡ k
+unfolding unless-found _>>=_
+clear o why k e = ap (λ (x : Option ℕ). unless-found x why >>= λ _. k) e
+
+-- one that finds a record stops there
+pub meets : {B : Type 0} (o : Option ℕ) (why : Reason) (k : Judged B) (i : ℕ) → o ≡ some i
+    → (unless-found o why >>= λ _. k) ≡ refused (record { reason = why; table = Table.Paths; row = i })
+unfolding unless-found _>>=_
+meets o why k i e = ap (λ (x : Option ℕ). unless-found x why >>= λ _. k) e
+
+-- an accepted step hands on what it accepts, a refused one its refusal
+pub goes-on : {A B : Type 0} (m : Judged A) (f : A → Judged B) (a : A) → m ≡ accepted a → (m >>= f) ≡ f a
+unfolding _>>=_
+goes-on {A} m f a e = ap (λ (x : Judged A). x >>= f) e
+
+pub ends : {A B : Type 0} (m : Judged A) (f : A → Judged B) (r : Refusal) → m ≡ refused r → (m >>= f) ≡ refused r
+unfolding _>>=_
+ends {A} m f r e = ap (λ (x : Judged A). x >>= f) e
+
 -- ---- records in order
 
 -- what holds of those before and is kept by each record that is taken holds of all

@@ -66,6 +66,18 @@ unfolding taken kept
 accepted-there (refused r) e = let z : false ≡ true = ap kept e in absurd (subst (λ (b : Bool). elim b as (λ _. Type 0) [ true ↦ ⊥ | false ↦ Unit {0} ]) z tt)
 accepted-there (accepted a) e = (a, refl)
 
+-- what is answered of a record that is refused, and the array stays
+pub left-refused : {A : Type 0} (numbers : A → List ℕ) (at : ℕ) (s : List ℕ) (j : Judged A) (r : Refusal) → j ≡ refused r
+    → (Taken.Refused (r .reason) ≡ taken j) × (s ≡ stored numbers at j s)
+unfolding taken stored
+left-refused {A} numbers at s j r e = (sym (ap taken e), sym (ap (λ (x : Judged A). stored numbers at x s) e))
+
+-- of one that is taken, and its numbers are stored
+pub left-taken : {A : Type 0} (numbers : A → List ℕ) (at : ℕ) (s s′ : List ℕ) (j : Judged A) (a : A) → j ≡ accepted a → s′ ≡ sets s at (numbers a)
+    → (Taken.Kept ≡ taken j) × (s′ ≡ stored numbers at j s)
+unfolding taken stored
+left-taken {A} numbers at s s′ j a e put = (sym (ap taken e), put ∙ sym (ap (λ (x : Judged A). stored numbers at x s) e))
+
 -- ---- numbers in front of zeros
 
 -- an array of zeros holds nothing yet
