@@ -14,7 +14,7 @@ use lib.ListN.{length, take, drop, getD, length-take, length-drop, drop-of-lengt
 use lib.Seq.{length-take-le, take-suc, drop-cons, getD-take, getD-drop, drop-drop}
 use Rattle.floor.specs.Plan.{Road, joins, road-between, joined}
 use Rattle.floor.specs.Refusal.{next}
-use Rattle.floor.specs.Paths.{on-roads, off-road, collides, first-collision, earliest, at-step, steps}
+use Rattle.floor.specs.Paths.{on-roads, off-road, collides, first-collision, earliest, at-step, steps, Move, exchanged}
 use Rattle.floor.specs.Arrays.{roads-in, paths-in}
 
 -- ---- roads
@@ -304,3 +304,39 @@ cells-placed n w s t h =
       count = images-count (at-step t) n w s;
       there = λ d i l. image-at (at-step t) n w s d i l ∙ cell-at w s i t h;
     }
+
+-- the moves that n paths make from step t
+abbrev pub moves-at : ℕ → ℕ → List ℕ → ℕ → List Move
+moves-at n w s t = map (λ (p : List ℕ). record { before = at-step t p; after = at-step (suc t) p }) (paths-in n w s)
+
+-- the moves to step t
+pub moves-placed : (n w : ℕ) (s : List ℕ) (t : ℕ) → 1 ≤ t → t < w
+    → Placed (moves-at n w s (t - 1)) n (λ i. record { before = getD s (i * w + t - 1) 0; after = getD s (i * w + t) 0 })
+moves-placed n w s t least h = record { count = images-count move n w s; there = λ d i l. image-at move n w s d i l ∙ here i }
+  where
+    move : List ℕ → Move
+    move p = record { before = at-step (t - 1) p; after = at-step (suc (t - 1)) p }
+
+    here : (i : ℕ) → _≡_ {A = Move} (record { before = at-step (t - 1) (take w (drop (i * w) s)); after = at-step (suc (t - 1)) (take w (drop (i * w) s)) })
+        (record { before = getD s (i * w + t - 1) 0; after = getD s (i * w + t) 0 })
+    here i =
+        let one : suc (t - 1) ≡ t = omega arith in
+        let before : i * w + (t - 1) ≡ i * w + t - 1 = omega arith in
+        rw (one, cell-at w s i (t - 1) (omega arith), cell-at w s i t h, before)
+
+-- two moves between the same cells, each the other way
+pub moves-meet : (a b x y : ℕ) → y ≡ a → x ≡ b → exchanged (record { before = a; after = b }) (record { before = x; after = y }) ≡ true
+unfolding exchanged
+moves-meet a b x y p q = rw (eq-eqb a y (sym p), eq-eqb b x (sym q))
+
+-- any other two
+pub moves-pass : (a b x y : ℕ) → (y ≡ a → x ≡ b → ⊥) → exchanged (record { before = a; after = b }) (record { before = x; after = y }) ≡ false
+unfolding exchanged
+moves-pass a b x y h = both-fail a b y x (λ p q. h (sym p) (sym q))
+
+-- a step is passed over, the steps counted from 1
+pub step-to-passed : (f : ℕ → Option ℕ) (s n : ℕ) → 1 ≤ s → f (s - 1) ≡ none
+    → earliest f (s - 1) (n - (s - 1)) ≡ earliest f (s + 1 - 1) (n - (s + 1 - 1))
+step-to-passed f s n least e =
+    let one : s - 1 + 1 ≡ s + 1 - 1 = omega arith in
+    step-passed f (s - 1) n e ∙ ap (λ (j : ℕ). earliest f j (n - j)) one
