@@ -1,6 +1,6 @@
 -- `floor::collisions::exchanges` meets its contract. The loops' invariants are those of `same_cells`, for the moves to a step.
 -- Assumes nothing.
-use Prim.Native.Nat.{_+_, _-_, _≤_}
+use Prim.Native.Nat.{_+_, _*_, _-_, _≤_, _<_}
 use native.Mathlib.Numerals.{unary-clauses}
 use native.Mathlib.Omega.{arith}
 use mathlib.Core.Path.{_≡_, refl, ap, sym, _∙_}
@@ -44,120 +44,76 @@ loop-holds : tie.Need-loop-holds Inv-loop2 μ-loop2 Inv-loop μ-loop Inv-steps �
 unfolding exchange
 loop-holds c = (c .before .steps .inv .0, refl)
 
+-- this cart's cells are in the array
+this-fits : (c : tie.In-loop Inv-loop2 μ-loop2 Inv-loop μ-loop Inv-steps μ-steps)
+    → let a = c .before .before .before .before .args in c .before .loop .i * a .w + a .w ≤ a .carts * a .w
+this-fits c = path-fits (c .before .loop .i) (c .before .before .before .before .args .carts) _ (c .loop-test .taken)
+
+-- and those of the cart that it is held against
+that-fits : (c : tie.In-loop2 Inv-loop2 μ-loop2 Inv-loop μ-loop Inv-steps μ-steps)
+    → let a = c .before .before .before .before .before .before .before .before .args in c .before .loop2 .k * a .w + a .w ≤ a .carts * a .w
+that-fits c = path-fits (c .before .loop2 .k) (c .before .before .before .before .before .before .before .before .args .carts) _ (omega arith)
+
 mul-a : tie.Need-mul-a Inv-loop2 μ-loop2 Inv-loop μ-loop Inv-steps μ-steps
-mul-a c =
-    let l = c .before in
-    let a = l .before .before .before .args in
-    omega (arith, path-fits (l .loop .i) (a .carts) (a .w) (c .loop-test .taken))
+mul-a c = omega (arith, this-fits c)
 
 add-a : tie.Need-add-a Inv-loop2 μ-loop2 Inv-loop μ-loop Inv-steps μ-steps
-add-a c =
-    let l = c .before in
-    let a = l .before .before .before .args in
-    omega (arith, path-fits (l .loop .i) (a .carts) (a .w) (c .loop-test .taken))
+add-a c = omega (arith, this-fits c)
 
 sub-a : tie.Need-sub-a Inv-loop2 μ-loop2 Inv-loop μ-loop Inv-steps μ-steps
-sub-a c =
-    let l = c .before in
-    let a = l .before .before .before .args in
-    omega (arith, path-fits (l .loop .i) (a .carts) (a .w) (c .loop-test .taken))
+sub-a c = omega (arith, this-fits c)
 
 mul-a-2 : tie.Need-mul-a-2 Inv-loop2 μ-loop2 Inv-loop μ-loop Inv-steps μ-steps
-mul-a-2 c =
-    let l = c .before in
-    let a = l .before .before .before .args in
-    omega (arith, path-fits (l .loop .i) (a .carts) (a .w) (c .loop-test .taken))
+mul-a-2 c = omega (arith, this-fits c)
 
 shared-slice-read-a :
     tie.Need-shared-slice-read-a Inv-loop2 μ-loop2 Inv-loop μ-loop Inv-steps μ-steps
-shared-slice-read-a c =
-    let l = c .before .before in
-    let a = l .before .before .before .args in
-    omega (arith, path-fits (l .loop .i) (a .carts) (a .w) (c .before .loop-test .taken))
+shared-slice-read-a c = omega (arith, this-fits (c .before))
 
 mul-b : tie.Need-mul-b Inv-loop2 μ-loop2 Inv-loop μ-loop Inv-steps μ-steps
-mul-b c =
-    let l = c .before .before in
-    let a = l .before .before .before .args in
-    omega (arith, path-fits (l .loop .i) (a .carts) (a .w) (c .before .loop-test .taken))
+mul-b c = omega (arith, this-fits (c .before))
 
 add-b : tie.Need-add-b Inv-loop2 μ-loop2 Inv-loop μ-loop Inv-steps μ-steps
-add-b c =
-    let l = c .before .before in
-    let a = l .before .before .before .args in
-    omega (arith, path-fits (l .loop .i) (a .carts) (a .w) (c .before .loop-test .taken))
+add-b c = omega (arith, this-fits (c .before))
 
 mul-b-2 : tie.Need-mul-b-2 Inv-loop2 μ-loop2 Inv-loop μ-loop Inv-steps μ-steps
-mul-b-2 c =
-    let l = c .before .before in
-    let a = l .before .before .before .args in
-    omega (arith, path-fits (l .loop .i) (a .carts) (a .w) (c .before .loop-test .taken))
+mul-b-2 c = omega (arith, this-fits (c .before))
 
 shared-slice-read-b :
     tie.Need-shared-slice-read-b Inv-loop2 μ-loop2 Inv-loop μ-loop Inv-steps μ-steps
-shared-slice-read-b c =
-    let l = c .before .before .before in
-    let a = l .before .before .before .args in
-    omega (arith, path-fits (l .loop .i) (a .carts) (a .w) (c .before .before .loop-test .taken))
+shared-slice-read-b c = omega (arith, this-fits (c .before .before))
 
 loop2-holds : tie.Need-loop2-holds Inv-loop2 μ-loop2 Inv-loop μ-loop Inv-steps μ-steps
 loop2-holds c = (c .before .before .before .loop .inv .0, refl)
 
 mul-if1 : tie.Need-mul-if1 Inv-loop2 μ-loop2 Inv-loop μ-loop Inv-steps μ-steps
-mul-if1 c =
-    let m = c .before in
-    let a = m .before .before .before .before .before .before .before .args in
-    omega (arith, path-fits (m .loop2 .k) (a .carts) (a .w) (omega arith))
+mul-if1 c = omega (arith, that-fits c)
 
 add-if1 : tie.Need-add-if1 Inv-loop2 μ-loop2 Inv-loop μ-loop Inv-steps μ-steps
-add-if1 c =
-    let m = c .before in
-    let a = m .before .before .before .before .before .before .before .args in
-    omega (arith, path-fits (m .loop2 .k) (a .carts) (a .w) (omega arith))
+add-if1 c = omega (arith, that-fits c)
 
 mul-if1-2 : tie.Need-mul-if1-2 Inv-loop2 μ-loop2 Inv-loop μ-loop Inv-steps μ-steps
-mul-if1-2 c =
-    let m = c .before in
-    let a = m .before .before .before .before .before .before .before .args in
-    omega (arith, path-fits (m .loop2 .k) (a .carts) (a .w) (omega arith))
+mul-if1-2 c = omega (arith, that-fits c)
 
 shared-slice-read-if1 :
     tie.Need-shared-slice-read-if1 Inv-loop2 μ-loop2 Inv-loop μ-loop Inv-steps μ-steps
-shared-slice-read-if1 c =
-    let m = c .before .before in
-    let a = m .before .before .before .before .before .before .before .args in
-    omega (arith, path-fits (m .loop2 .k) (a .carts) (a .w) (omega arith))
+shared-slice-read-if1 c = omega (arith, that-fits (c .before))
 
 mul-if2 : tie.Need-mul-if2 Inv-loop2 μ-loop2 Inv-loop μ-loop Inv-steps μ-steps
-mul-if2 c =
-    let m = c .before .before .before in
-    let a = m .before .before .before .before .before .before .before .args in
-    omega (arith, path-fits (m .loop2 .k) (a .carts) (a .w) (omega arith))
+mul-if2 c = omega (arith, that-fits (c .before .before))
 
 add-if2 : tie.Need-add-if2 Inv-loop2 μ-loop2 Inv-loop μ-loop Inv-steps μ-steps
-add-if2 c =
-    let m = c .before .before .before in
-    let a = m .before .before .before .before .before .before .before .args in
-    omega (arith, path-fits (m .loop2 .k) (a .carts) (a .w) (omega arith))
+add-if2 c = omega (arith, that-fits (c .before .before))
 
 sub-if2 : tie.Need-sub-if2 Inv-loop2 μ-loop2 Inv-loop μ-loop Inv-steps μ-steps
-sub-if2 c =
-    let m = c .before .before .before in
-    let a = m .before .before .before .before .before .before .before .args in
-    omega (arith, path-fits (m .loop2 .k) (a .carts) (a .w) (omega arith))
+sub-if2 c = omega (arith, that-fits (c .before .before))
 
 mul-if2-2 : tie.Need-mul-if2-2 Inv-loop2 μ-loop2 Inv-loop μ-loop Inv-steps μ-steps
-mul-if2-2 c =
-    let m = c .before .before .before in
-    let a = m .before .before .before .before .before .before .before .args in
-    omega (arith, path-fits (m .loop2 .k) (a .carts) (a .w) (omega arith))
+mul-if2-2 c = omega (arith, that-fits (c .before .before))
 
 shared-slice-read-if2 :
     tie.Need-shared-slice-read-if2 Inv-loop2 μ-loop2 Inv-loop μ-loop Inv-steps μ-steps
-shared-slice-read-if2 c =
-    let m = c .before .before .before .before in
-    let a = m .before .before .before .before .before .before .before .args in
-    omega (arith, path-fits (m .loop2 .k) (a .carts) (a .w) (omega arith))
+shared-slice-read-if2 c = omega (arith, that-fits (c .before .before .before))
 
 add-found : tie.Need-add-found Inv-loop2 μ-loop2 Inv-loop μ-loop Inv-steps μ-steps
 add-found c = omega arith
@@ -173,10 +129,11 @@ loop2-again c =
     let m = c .before .before .before in
     let l = m .before .before .before .before in
     let t = l .before .before in
-    let a = t .before .args in (
+    let a = t .before .args in
+    let v = moves-placed (a .carts) (a .w) (a .cells .now) (t .steps .s) (omega arith) (omega arith) in (
       m .loop2 .inv .0,
-      m .loop2 .inv .1 ∙ other-passed exchanged (moves-placed (a .carts) (a .w) (a .cells .now) (t .steps .s) (omega arith) (omega arith)) _ (l .loop .i) (m .loop2 .k) (omega arith) (omega arith)
-          (moves-pass _ _ _ _ (⊎-elim (λ v p q. v .2 .left q) (λ v p q. v .left p) (c .if1 .came))),
+      m .loop2 .inv .1 ∙ other-passed exchanged v (l .loop .i) (m .loop2 .k) (omega arith) (omega arith)
+          (moves-pass _ _ _ _ (⊎-elim (λ u p q. u .2 .left q) (λ u p q. u .left p) (c .if1 .came))),
     )
 
 add-i : tie.Need-add-i Inv-loop2 μ-loop2 Inv-loop μ-loop Inv-steps μ-steps
@@ -191,7 +148,8 @@ loop-again c =
     let l = m .before .before .before .before in
     let t = l .before .before in
     let a = t .before .args in
-    (m .loop2 .inv .0, l .loop .inv .1 ∙ record-passed exchanged (moves-placed (a .carts) (a .w) (a .cells .now) (t .steps .s) (omega arith) (omega arith)) (l .loop .i) (m .loop2 .k) (omega arith) (omega arith) (m .loop2 .inv .1))
+    let v = moves-placed (a .carts) (a .w) (a .cells .now) (t .steps .s) (omega arith) (omega arith) in
+    (m .loop2 .inv .0, l .loop .inv .1 ∙ record-passed exchanged v (l .loop .i) (m .loop2 .k) (omega arith) (omega arith) (m .loop2 .inv .1))
 
 add-s : tie.Need-add-s Inv-loop2 μ-loop2 Inv-loop μ-loop Inv-steps μ-steps
 add-s c = omega arith
@@ -203,11 +161,13 @@ steps-again : tie.Need-steps-again Inv-loop2 μ-loop2 Inv-loop μ-loop Inv-steps
 steps-again c =
     let l = c .before in
     let t = l .before .before in
-    let a = t .before .args in (
+    let a = t .before .args in
+    let n = steps (paths-in (a .carts) (a .w) (a .cells .now)) - 1 in
+    let v = moves-placed (a .carts) (a .w) (a .cells .now) (t .steps .s) (omega arith) (omega arith) in (
       l .loop .inv .0,
       omega arith,
-      t .steps .inv .2 ∙ step-to-passed _ (t .steps .s) (steps (paths-in (a .carts) (a .w) (a .cells .now)) - 1) (omega arith)
-          (l .loop .inv .1 ∙ records-past exchanged (moves-placed (a .carts) (a .w) (a .cells .now) (t .steps .s) (omega arith) (omega arith)) (l .loop .i) (omega arith)),
+      t .steps .inv .2 ∙ step-to-passed _ (t .steps .s) n (omega arith)
+          (l .loop .inv .1 ∙ records-past exchanged v (l .loop .i) (omega arith)),
     )
 
 returns : tie.Need-returns Inv-loop2 μ-loop2 Inv-loop μ-loop Inv-steps μ-steps
@@ -215,8 +175,9 @@ unfolding found
 returns c =
     let t = c .before in
     let a = t .before .args in
+    let n = steps (paths-in (a .carts) (a .w) (a .cells .now)) - 1 in
     t .steps .inv .0
-    ∙ sym (ap found (t .steps .inv .2 ∙ steps-over _ (t .steps .s - 1) (steps (paths-in (a .carts) (a .w) (a .cells .now)) - 1) (omega (arith, steps-most (a .carts) (a .w) (a .cells .now)))))
+    ∙ sym (ap found (t .steps .inv .2 ∙ steps-over _ (t .steps .s - 1) n (omega (arith, steps-most (a .carts) (a .w) (a .cells .now)))))
 
 returns-2 : tie.Need-returns-2 Inv-loop2 μ-loop2 Inv-loop μ-loop Inv-steps μ-steps
 unfolding found
@@ -225,9 +186,12 @@ returns-2 c =
     let l = m .before .before .before .before in
     let t = l .before .before in
     let a = t .before .args in
-    sym (ap found (t .steps .inv .2 ∙ step-found _ (t .steps .s - 1) (steps (paths-in (a .carts) (a .w) (a .cells .now)) - 1) (l .loop .i + 1) (omega (arith, steps-all (a .carts) (a .w) (a .cells .now) (omega arith) (omega arith)))
-    (l .loop .inv .1 ∙ record-found exchanged (moves-placed (a .carts) (a .w) (a .cells .now) (t .steps .s) (omega arith) (omega arith)) (l .loop .i) (m .loop2 .k) (omega arith) (omega arith) (m .loop2 .inv .1)
-    (moves-meet _ _ _ _ (c .before .before .if1 .taken) (c .if2 .taken)))))
+    let n = steps (paths-in (a .carts) (a .w) (a .cells .now)) - 1 in
+    let v = moves-placed (a .carts) (a .w) (a .cells .now) (t .steps .s) (omega arith) (omega arith) in
+    let met = moves-meet _ _ _ _ (c .before .before .if1 .taken) (c .if2 .taken) in
+    let here = record-found exchanged v (l .loop .i) (m .loop2 .k) (omega arith) (omega arith) (m .loop2 .inv .1) met in
+    let within : t .steps .s - 1 < n = omega (arith, steps-all (a .carts) (a .w) (a .cells .now) (omega arith) (omega arith)) in
+    sym (ap found (t .steps .inv .2 ∙ step-found _ (t .steps .s - 1) n (l .loop .i + 1) within (l .loop .inv .1 ∙ here)))
 
 pub exchanges-spec : {M : Type 1} → statement M
 exchanges-spec =
