@@ -5,16 +5,16 @@ use native.Mathlib.Numerals.{add-one}
 use native.Mathlib.Nat.{mul-le-mul-right, add-mul, zero-mul, suc-mul}
 use native.Mathlib.Omega.{arith}
 use mathlib.Core.Path.{_≡_, refl, ap, sym, _∙_}
-use mathlib.Core.Bool.{Bool, true, false, _&&_, _||_, cond}
+use mathlib.Core.Bool.{Bool, true, false, not, _&&_, _||_, cond}
 use mathlib.Core.List.{List, [], _∷_, map}
 use mathlib.Core.Option.{Option, none, some}
-use borrow.Author.Tests.{eq-eqb, ne-eqb, eqb-true}
+use borrow.Author.Tests.{eq-eqb, ne-eqb, eqb-true, not-true, not-false}
 use lib.Dec.{eqb}
 use lib.ListN.{length, take, drop, getD, length-take, length-drop, drop-of-length-le}
 use lib.Seq.{length-take-le, take-suc, drop-cons, getD-take, getD-drop, drop-drop}
 use Rattle.floor.specs.Plan.{Road, joins, road-between, joined}
 use Rattle.floor.specs.Refusal.{next}
-use Rattle.floor.specs.Paths.{on-roads, off-road, collides, first-collision, earliest, at-step, steps}
+use Rattle.floor.specs.Paths.{on-roads, off-road, collides, first-collision, earliest, at-step, steps, Move, exchanged}
 use Rattle.floor.specs.Arrays.{roads-in, paths-in}
 
 -- ---- roads
@@ -127,8 +127,9 @@ module _ (rs : List Road) (cells : List ℕ) (at w : ℕ) where
       let same : s + 1 - 1 ≡ s = omega arith in
       let before : at + (s - 1) ≡ at + s - 1 = omega arith in
       let long : suc (s - 1) < length p = simp (length-take, length-drop) (omega arith) in
-      let a : getD p (s - 1) 0 ≡ getD cells (at + s - 1) 0 = getD-take w (drop at cells) (s - 1) 0 (omega arith) ∙ getD-drop at cells (s - 1) 0 ∙ ap (λ (j : ℕ). getD cells j 0) before in
-      let b : getD p s 0 ≡ getD cells (at + s) 0 = getD-take w (drop at cells) s 0 below ∙ getD-drop at cells s 0 in
+      let less : s - 1 < w = omega arith in
+      let a : getD p (s - 1) 0 ≡ getD cells (at + s - 1) 0 = rw (getD-take, getD-drop, before) in
+      let b : getD p s 0 ≡ getD cells (at + s) 0 = rw (getD-take, getD-drop) in
       on-roads-next rs p (s - 1) long ∙ rw (one, same, a, b, e)
 
   -- a step that stays
@@ -137,14 +138,15 @@ module _ (rs : List Road) (cells : List ℕ) (at w : ℕ) where
   step-stays s least below fits e = step-next s true least below fits (rw (eq-eqb _ _ e))
 
   -- a step on a road
-  pub step-on : (s : ℕ) → 1 ≤ s → s < w → at + w ≤ length cells → joined rs (getD cells (at + s - 1) 0) (getD cells (at + s) 0) ≡ true
-      → on-roads rs (path-from cells at w (s - 1)) ≡ on-roads rs (path-from cells at w (s + 1 - 1))
-  step-on s least below fits e = step-next s true least below fits (rw e (either (eqb (getD cells (at + s - 1) 0) (getD cells (at + s) 0))))
+  pub step-on : {r : Bool} (s : ℕ) → 1 ≤ s → s < w → at + w ≤ length cells → r ≡ joined rs (getD cells (at + s - 1) 0) (getD cells (at + s) 0)
+      → not r ≡ false → on-roads rs (path-from cells at w (s - 1)) ≡ on-roads rs (path-from cells at w (s + 1 - 1))
+  step-on {r} s least below fits e t =
+      step-next s true least below fits (rw (← e, not-false r t) (either (eqb (getD cells (at + s - 1) 0) (getD cells (at + s) 0))))
 
   -- a step off the roads
-  pub step-off : (s : ℕ) → 1 ≤ s → s < w → at + w ≤ length cells → (getD cells (at + s - 1) 0 ≡ getD cells (at + s) 0 → ⊥)
-      → joined rs (getD cells (at + s - 1) 0) (getD cells (at + s) 0) ≡ false → on-roads rs (path-from cells at w (s - 1)) ≡ false
-  step-off s least below fits h e = step-next s false least below fits (rw (ne-eqb _ _ h, e))
+  pub step-off : {r : Bool} (s : ℕ) → 1 ≤ s → s < w → at + w ≤ length cells → (getD cells (at + s - 1) 0 ≡ getD cells (at + s) 0 → ⊥)
+      → r ≡ joined rs (getD cells (at + s - 1) 0) (getD cells (at + s) 0) → not r ≡ true → on-roads rs (path-from cells at w (s - 1)) ≡ false
+  step-off {r} s least below fits h e t = step-next s false least below fits (rw (ne-eqb _ _ h, ← e, not-true r t))
 
   -- after the last step
   pub steps-past : (s : ℕ) → w ≤ s → on-roads rs (path-from cells at w (s - 1)) ≡ true
@@ -167,14 +169,14 @@ off-road-next rs n w i at s t h e =
     rw (l, e, drop-drop, m)
 
 -- a path that keeps to the roads is passed over
-pub path-on : (rs : List Road) (n w i at : ℕ) (s : List ℕ) → i < n → on-roads rs (take w (drop at s)) ≡ true
+pub path-on : (rs : List Road) (n w i at : ℕ) (s : List ℕ) {r : Bool} → i < n → r ≡ on-roads rs (take w (drop at s)) → not r ≡ false
     → off-road rs (i + 1) (paths-in (n - i) w (drop at s)) ≡ off-road rs (i + 1 + 1) (paths-in (n - (i + 1)) w (drop (at + w) s))
-path-on rs n w i at s h e = off-road-next rs n w i at s true h e
+path-on rs n w i at s {r} h e t = off-road-next rs n w i at s true h (sym e ∙ not-false r t)
 
 -- one that leaves them is found
-pub path-off : (rs : List Road) (n w i at : ℕ) (s : List ℕ) → i < n → on-roads rs (take w (drop at s)) ≡ false
+pub path-off : (rs : List Road) (n w i at : ℕ) (s : List ℕ) {r : Bool} → i < n → r ≡ on-roads rs (take w (drop at s)) → not r ≡ true
     → off-road rs (i + 1) (paths-in (n - i) w (drop at s)) ≡ some (i + 1)
-path-off rs n w i at s h e = off-road-next rs n w i at s false h e
+path-off rs n w i at s {r} h e t = off-road-next rs n w i at s false h (sym e ∙ not-true r t)
 
 -- after the last path
 pub paths-past : (rs : List Road) (n w i at : ℕ) (s : List ℕ) → n ≤ i → off-road rs (i + 1) (paths-in (n - i) w (drop at s)) ≡ none
@@ -189,19 +191,19 @@ pub record Placed {A : Type 0} (xs : List A) (n : ℕ) (at : ℕ → A) : Type 0
   pub there : (d : A) (i : ℕ) → i < n → getD xs i d ≡ at i
 
 module _ {A : Type 0} {xs : List A} {n : ℕ} {at : ℕ → A} (f : A → A → Bool) (v : Placed xs n at) where
-  -- x held against those before i from place k on: the one there, and those after it
-  collides-next : (x : A) (i k : ℕ) (t : Bool) → k < i → i < n → f x (at k) ≡ t
-      → collides f x (drop k (take i xs)) ≡ t || collides f x (drop (k + 1) (take i xs))
+  -- the one at place i held against those before it from place k on: the one there, and those after it
+  collides-next : (i k : ℕ) (t : Bool) → k < i → i < n → f (at i) (at k) ≡ t
+      → collides f (at i) (drop k (take i xs)) ≡ t || collides f (at i) (drop (k + 1) (take i xs))
   unfolding collides
-  collides-next x i k t h l e =
+  collides-next i k t h l e =
       let below : k < length (take i xs) = simp length-take (omega (arith, v .count)) in
       let here : getD (take i xs) k (at k) ≡ at k = getD-take i xs k (at k) h ∙ v .there (at k) k (omega arith) in
       rw (add-one, drop-cons (take i xs) k (at k) below, here, e)
 
-  -- one that x does not collide with is passed over
-  pub other-passed : (x : A) (i k : ℕ) → k < i → i < n → f x (at k) ≡ false
-      → collides f x (drop k (take i xs)) ≡ collides f x (drop (k + 1) (take i xs))
-  other-passed x i k h l e = collides-next x i k false h l e
+  -- one that the one at place i does not collide with is passed over
+  pub other-passed : (i k : ℕ) → k < i → i < n → f (at i) (at k) ≡ false
+      → collides f (at i) (drop k (take i xs)) ≡ collides f (at i) (drop (k + 1) (take i xs))
+  other-passed i k h l e = collides-next i k false h l e
 
   -- the one at place i, tested, and those after it
   first-next : (i : ℕ) (t : Bool) → i < n → collides f (at i) (take i xs) ≡ t
@@ -224,7 +226,7 @@ module _ {A : Type 0} {xs : List A} {n : ℕ} {at : ℕ → A} (f : A → A → 
   -- one that collides with the one at place k is found
   pub record-found : (i k : ℕ) → k < i → i < n → collides f (at i) (take i xs) ≡ collides f (at i) (drop k (take i xs)) → f (at i) (at k) ≡ true
       → first-collision f (take i xs) (drop i xs) ≡ some (i + 1)
-  record-found i k l h e met = first-next i true h (e ∙ collides-next (at i) i k true l h met)
+  record-found i k l h e met = first-next i true h (e ∙ collides-next i k true l h met)
 
   -- after the last
   pub records-past : (i : ℕ) → n ≤ i → first-collision f (take i xs) (drop i xs) ≡ none
@@ -304,3 +306,39 @@ cells-placed n w s t h =
       count = images-count (at-step t) n w s;
       there = λ d i l. image-at (at-step t) n w s d i l ∙ cell-at w s i t h;
     }
+
+-- the moves that n paths make from step t
+abbrev pub moves-at : ℕ → ℕ → List ℕ → ℕ → List Move
+moves-at n w s t = map (λ (p : List ℕ). record { before = at-step t p; after = at-step (suc t) p }) (paths-in n w s)
+
+-- the moves to step t
+pub moves-placed : (n w : ℕ) (s : List ℕ) (t : ℕ) → 1 ≤ t → t < w
+    → Placed (moves-at n w s (t - 1)) n (λ i. record { before = getD s (i * w + t - 1) 0; after = getD s (i * w + t) 0 })
+moves-placed n w s t least h = record { count = images-count move n w s; there = λ d i l. image-at move n w s d i l ∙ here i }
+  where
+    move : List ℕ → Move
+    move p = record { before = at-step (t - 1) p; after = at-step (suc (t - 1)) p }
+
+    here : (i : ℕ) → _≡_ {A = Move} (record { before = at-step (t - 1) (take w (drop (i * w) s)); after = at-step (suc (t - 1)) (take w (drop (i * w) s)) })
+        (record { before = getD s (i * w + t - 1) 0; after = getD s (i * w + t) 0 })
+    here i =
+        let one : suc (t - 1) ≡ t = omega arith in
+        let before : i * w + (t - 1) ≡ i * w + t - 1 = omega arith in
+        rw (one, cell-at w s i (t - 1) (omega arith), cell-at w s i t h, before)
+
+-- two moves between the same cells, each the other way
+pub moves-meet : (a b x y : ℕ) → y ≡ a → x ≡ b → exchanged (record { before = a; after = b }) (record { before = x; after = y }) ≡ true
+unfolding exchanged
+moves-meet a b x y p q = rw (eq-eqb a y (sym p), eq-eqb b x (sym q))
+
+-- any other two
+pub moves-pass : (a b x y : ℕ) → (y ≡ a → x ≡ b → ⊥) → exchanged (record { before = a; after = b }) (record { before = x; after = y }) ≡ false
+unfolding exchanged
+moves-pass a b x y h = both-fail a b y x (λ p q. h (sym p) (sym q))
+
+-- a step is passed over, the steps counted from 1
+pub step-to-passed : (f : ℕ → Option ℕ) (s n : ℕ) → 1 ≤ s → f (s - 1) ≡ none
+    → earliest f (s - 1) (n - (s - 1)) ≡ earliest f (s + 1 - 1) (n - (s + 1 - 1))
+step-to-passed f s n least e =
+    let one : s - 1 + 1 ≡ s + 1 - 1 = omega arith in
+    step-passed f (s - 1) n e ∙ ap (λ (j : ℕ). earliest f j (n - j)) one

@@ -4,7 +4,6 @@ use Prim.Native.Nat.{_-_, _≤_}
 use native.Mathlib.Omega.{arith}
 use mathlib.Core.Path.{_≡_, refl, sym, _∙_}
 use mathlib.Core.Logic.{⊎-elim}
-use borrow.Author.Tests.{not-true, not-false}
 use lib.ListN.{take, drop}
 use Rattle.floor.specs.Paths.{on-roads}
 use Rattle.floor.specs.Arrays.{roads-in}
@@ -51,7 +50,7 @@ returns : tie.Need-returns Inv-loop μ-loop
 returns c =
     let l = c .before .before .before .before .before .before in
     let a = l .before .before .before .args in
-    sym (l .loop .inv .1 ∙ step-off _ (a .cells .now) (a .at) (a .w) (l .loop .s) (omega arith) (omega arith) (omega arith) (c .before .before .if1 .taken) (sym (c .before .is-joined .ensures) ∙ not-true _ (c .if2 .taken)))
+    sym (l .loop .inv .1 ∙ step-off _ (a .cells .now) (a .at) (a .w) (l .loop .s) (omega arith) (omega arith) (omega arith) (c .before .before .if1 .taken) (c .before .is-joined .ensures) (c .if2 .taken))
 
 add-s : tie.Need-add-s Inv-loop μ-loop
 add-s c = omega arith
@@ -65,7 +64,7 @@ loop-again c =
     let a = l .before .before .before .args in (
       omega arith,
       l .loop .inv .1 ∙ ⊎-elim
-          (λ w. step-on _ (a .cells .now) (a .at) (a .w) (l .loop .s) (omega arith) (omega arith) (omega arith) (sym (w .1 .ensures) ∙ not-false _ (w .2 .left)))
+          (λ w. step-on _ (a .cells .now) (a .at) (a .w) (l .loop .s) (omega arith) (omega arith) (omega arith) (w .1 .ensures) (w .2 .left))
           (λ w. step-stays _ (a .cells .now) (a .at) (a .w) (l .loop .s) (omega arith) (omega arith) (omega arith) (w .left))
           (c .if1 .came),
     )

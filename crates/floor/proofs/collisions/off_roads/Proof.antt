@@ -5,7 +5,6 @@ use native.Mathlib.Nat.{add-mul}
 use native.Mathlib.Numerals.{unary-clauses}
 use native.Mathlib.Omega.{arith}
 use mathlib.Core.Path.{_≡_, ap, sym, _∙_}
-use borrow.Author.Tests.{not-true, not-false}
 use lib.ListN.{drop}
 use Rattle.floor.specs.Paths.{off-road}
 use Rattle.floor.specs.Arrays.{roads-in, paths-in}
@@ -40,7 +39,7 @@ returns c =
     let l = c .before .before .before in
     let a = l .before .before .before .args in
     sym (ap found (l .loop .inv .2 ∙ path-off _ (a .carts) (a .w) (l .loop .i) (l .loop .at) (a .cells .now) (omega arith)
-    (sym (c .before .keeps-to-roads .ensures) ∙ not-true _ (c .if1 .taken))))
+    (c .before .keeps-to-roads .ensures) (c .if1 .taken)))
 
 add-at : tie.Need-add-at Inv-loop μ-loop
 add-at c =
@@ -61,7 +60,7 @@ loop-again c =
       omega arith,
       omega (arith, add-mul (l .loop .i) 1 (a .w)),
       l .loop .inv .2 ∙ path-on _ (a .carts) (a .w) (l .loop .i) (l .loop .at) (a .cells .now) (omega arith)
-          (sym (c .before .keeps-to-roads .ensures) ∙ not-false _ (c .if1 .left)),
+          (c .before .keeps-to-roads .ensures) (c .if1 .left),
     )
 
 returns-2 : tie.Need-returns-2 Inv-loop μ-loop

@@ -1,6 +1,6 @@
 -- `floor::collisions::same_cells` meets its contract. The loops' invariants: nothing was found at the steps passed, nor at this step among the carts
 -- passed, nor for this cart against those passed. Assumes nothing.
-use Prim.Native.Nat.{_+_, _-_}
+use Prim.Native.Nat.{_+_, _*_, _-_, _≤_, _<_}
 use native.Mathlib.Numerals.{unary-clauses}
 use native.Mathlib.Omega.{arith}
 use mathlib.Core.Path.{_≡_, refl, ap, sym, _∙_}
@@ -43,54 +43,44 @@ loop-holds : tie.Need-loop-holds Inv-loop2 μ-loop2 Inv-loop μ-loop Inv-steps �
 unfolding same-cell
 loop-holds c = (c .before .steps .inv .0, refl)
 
+-- this cart's cells are in the array
+this-fits : (c : tie.In-loop Inv-loop2 μ-loop2 Inv-loop μ-loop Inv-steps μ-steps)
+    → let a = c .before .before .before .before .args in c .before .loop .i * a .w + a .w ≤ a .carts * a .w
+this-fits c = path-fits (c .before .loop .i) (c .before .before .before .before .args .carts) _ (c .loop-test .taken)
+
+-- and those of the cart that it is held against
+that-fits : (c : tie.In-loop2 Inv-loop2 μ-loop2 Inv-loop μ-loop Inv-steps μ-steps)
+    → let a = c .before .before .before .before .before .before .before .args in c .before .loop2 .k * a .w + a .w ≤ a .carts * a .w
+that-fits c = path-fits (c .before .loop2 .k) (c .before .before .before .before .before .before .before .args .carts) _ (omega arith)
+
 mul-c : tie.Need-mul-c Inv-loop2 μ-loop2 Inv-loop μ-loop Inv-steps μ-steps
-mul-c c =
-    let l = c .before in
-    let a = l .before .before .before .args in
-    omega (arith, path-fits (l .loop .i) (a .carts) (a .w) (c .loop-test .taken))
+mul-c c = omega (arith, this-fits c)
 
 add-c : tie.Need-add-c Inv-loop2 μ-loop2 Inv-loop μ-loop Inv-steps μ-steps
-add-c c =
-    let l = c .before in
-    let a = l .before .before .before .args in
-    omega (arith, path-fits (l .loop .i) (a .carts) (a .w) (c .loop-test .taken))
+add-c c = omega (arith, this-fits c)
 
 mul-c-2 : tie.Need-mul-c-2 Inv-loop2 μ-loop2 Inv-loop μ-loop Inv-steps μ-steps
-mul-c-2 c =
-    let l = c .before in
-    let a = l .before .before .before .args in
-    omega (arith, path-fits (l .loop .i) (a .carts) (a .w) (c .loop-test .taken))
+mul-c-2 c = omega (arith, this-fits c)
 
 shared-slice-read-c :
     tie.Need-shared-slice-read-c Inv-loop2 μ-loop2 Inv-loop μ-loop Inv-steps μ-steps
-shared-slice-read-c c =
-    let l = c .before .before in
-    let a = l .before .before .before .args in
-    omega (arith, path-fits (l .loop .i) (a .carts) (a .w) (c .before .loop-test .taken))
+shared-slice-read-c c = omega (arith, this-fits (c .before))
 
 loop2-holds : tie.Need-loop2-holds Inv-loop2 μ-loop2 Inv-loop μ-loop Inv-steps μ-steps
 loop2-holds c = (c .before .before .loop .inv .0, refl)
 
 mul-if1 : tie.Need-mul-if1 Inv-loop2 μ-loop2 Inv-loop μ-loop Inv-steps μ-steps
-mul-if1 c =
-    let a = c .before .before .before .before .before .before .before .args in
-    omega (arith, path-fits (c .before .loop2 .k) (a .carts) (a .w) (omega arith))
+mul-if1 c = omega (arith, that-fits c)
 
 add-if1 : tie.Need-add-if1 Inv-loop2 μ-loop2 Inv-loop μ-loop Inv-steps μ-steps
-add-if1 c =
-    let a = c .before .before .before .before .before .before .before .args in
-    omega (arith, path-fits (c .before .loop2 .k) (a .carts) (a .w) (omega arith))
+add-if1 c = omega (arith, that-fits c)
 
 mul-if1-2 : tie.Need-mul-if1-2 Inv-loop2 μ-loop2 Inv-loop μ-loop Inv-steps μ-steps
-mul-if1-2 c =
-    let a = c .before .before .before .before .before .before .before .args in
-    omega (arith, path-fits (c .before .loop2 .k) (a .carts) (a .w) (omega arith))
+mul-if1-2 c = omega (arith, that-fits c)
 
 shared-slice-read-if1 :
     tie.Need-shared-slice-read-if1 Inv-loop2 μ-loop2 Inv-loop μ-loop Inv-steps μ-steps
-shared-slice-read-if1 c =
-    let a = c .before .before .before .before .before .before .before .before .args in
-    omega (arith, path-fits (c .before .before .loop2 .k) (a .carts) (a .w) (omega arith))
+shared-slice-read-if1 c = omega (arith, that-fits (c .before))
 
 add-found : tie.Need-add-found Inv-loop2 μ-loop2 Inv-loop μ-loop Inv-steps μ-steps
 add-found c = omega arith
@@ -106,9 +96,10 @@ loop2-again c =
     let m = c .before .before .before in
     let l = m .before .before .before in
     let t = l .before .before in
-    let a = t .before .args in (
+    let a = t .before .args in
+    let v = cells-placed (a .carts) (a .w) (a .cells .now) (t .steps .s) (omega arith) in (
       m .loop2 .inv .0,
-      m .loop2 .inv .1 ∙ other-passed eqb (cells-placed (a .carts) (a .w) (a .cells .now) (t .steps .s) (omega arith)) _ (l .loop .i) (m .loop2 .k) (omega arith) (omega arith)
+      m .loop2 .inv .1 ∙ other-passed eqb v (l .loop .i) (m .loop2 .k) (omega arith) (omega arith)
           (ne-eqb _ _ (λ q. c .if1 .left (sym q))),
     )
 
@@ -124,7 +115,8 @@ loop-again c =
     let l = m .before .before .before in
     let t = l .before .before in
     let a = t .before .args in
-    (m .loop2 .inv .0, l .loop .inv .1 ∙ record-passed eqb (cells-placed (a .carts) (a .w) (a .cells .now) (t .steps .s) (omega arith)) (l .loop .i) (m .loop2 .k) (omega arith) (omega arith) (m .loop2 .inv .1))
+    let v = cells-placed (a .carts) (a .w) (a .cells .now) (t .steps .s) (omega arith) in
+    (m .loop2 .inv .0, l .loop .inv .1 ∙ record-passed eqb v (l .loop .i) (m .loop2 .k) (omega arith) (omega arith) (m .loop2 .inv .1))
 
 add-s : tie.Need-add-s Inv-loop2 μ-loop2 Inv-loop μ-loop Inv-steps μ-steps
 add-s c = omega arith
@@ -136,10 +128,12 @@ steps-again : tie.Need-steps-again Inv-loop2 μ-loop2 Inv-loop μ-loop Inv-steps
 steps-again c =
     let l = c .before in
     let t = l .before .before in
-    let a = t .before .args in (
+    let a = t .before .args in
+    let n = steps (paths-in (a .carts) (a .w) (a .cells .now)) in
+    let v = cells-placed (a .carts) (a .w) (a .cells .now) (t .steps .s) (omega arith) in (
       l .loop .inv .0,
-      t .steps .inv .1 ∙ step-passed _ (t .steps .s) (steps (paths-in (a .carts) (a .w) (a .cells .now)))
-          (l .loop .inv .1 ∙ records-past eqb (cells-placed (a .carts) (a .w) (a .cells .now) (t .steps .s) (omega arith)) (l .loop .i) (omega arith)),
+      t .steps .inv .1 ∙ step-passed _ (t .steps .s) n
+          (l .loop .inv .1 ∙ records-past eqb v (l .loop .i) (omega arith)),
     )
 
 returns : tie.Need-returns Inv-loop2 μ-loop2 Inv-loop μ-loop Inv-steps μ-steps
@@ -147,8 +141,9 @@ unfolding found
 returns c =
     let t = c .before in
     let a = t .before .args in
+    let n = steps (paths-in (a .carts) (a .w) (a .cells .now)) in
     t .steps .inv .0
-    ∙ sym (ap found (t .steps .inv .1 ∙ steps-over _ (t .steps .s) (steps (paths-in (a .carts) (a .w) (a .cells .now))) (omega (arith, steps-most (a .carts) (a .w) (a .cells .now)))))
+    ∙ sym (ap found (t .steps .inv .1 ∙ steps-over _ (t .steps .s) n (omega (arith, steps-most (a .carts) (a .w) (a .cells .now)))))
 
 returns-2 : tie.Need-returns-2 Inv-loop2 μ-loop2 Inv-loop μ-loop Inv-steps μ-steps
 unfolding found
@@ -157,9 +152,12 @@ returns-2 c =
     let l = m .before .before .before in
     let t = l .before .before in
     let a = t .before .args in
-    sym (ap found (t .steps .inv .1 ∙ step-found _ (t .steps .s) (steps (paths-in (a .carts) (a .w) (a .cells .now))) (l .loop .i + 1) (omega (arith, steps-all (a .carts) (a .w) (a .cells .now) (omega arith) (omega arith)))
-    (l .loop .inv .1 ∙ record-found eqb (cells-placed (a .carts) (a .w) (a .cells .now) (t .steps .s) (omega arith)) (l .loop .i) (m .loop2 .k) (omega arith) (omega arith) (m .loop2 .inv .1)
-    (eq-eqb _ _ (sym (c .if1 .taken))))))
+    let n = steps (paths-in (a .carts) (a .w) (a .cells .now)) in
+    let v = cells-placed (a .carts) (a .w) (a .cells .now) (t .steps .s) (omega arith) in
+    let met = eq-eqb _ _ (sym (c .if1 .taken)) in
+    let here = record-found eqb v (l .loop .i) (m .loop2 .k) (omega arith) (omega arith) (m .loop2 .inv .1) met in
+    let within : t .steps .s < n = omega (arith, steps-all (a .carts) (a .w) (a .cells .now) (omega arith) (omega arith)) in
+    sym (ap found (t .steps .inv .1 ∙ step-found _ (t .steps .s) n (l .loop .i + 1) within (l .loop .inv .1 ∙ here)))
 
 pub same-cells-spec : {M : Type 1} → statement M
 same-cells-spec =
