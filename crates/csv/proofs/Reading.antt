@@ -136,7 +136,7 @@ fronted b c u false e (inr (r, rest, n, q, f)) = inr (subst (λ (x : List ℕ). 
         let same : c ≡ d = ap (λ (x : List ℕ). getD x 0 0) q in
         subst (λ (x : ℕ). T (not (ends b x) && no-end (d ∷ r))) same (rw e n)
 
-pub first-split : (t : List ℕ) → Whole t ⊎ Ended t
+first-split : (t : List ℕ) → Whole t ⊎ Ended t
 first-split [] = inl (whole [] tt)
 first-split (b ∷ []) = inl (whole (b ∷ []) tt)
 first-split (b ∷ c ∷ u) = fronted b c u (ends b c) refl (first-split (c ∷ u))
