@@ -1,14 +1,12 @@
 -- What reading the fields of a record one after another gives, and that it is what `specs` says of all of them.
 -- Assumes nothing.
-use Prim.Native.Nat.{ℕ, zero, suc, _+_, _≤_, _<_, max}
-use native.Mathlib.Nat.{not-suc-le-zero}
-use native.Mathlib.Numerals.{add-one}
+use Prim.Native.Nat.{ℕ, suc, _+_, _≤_, _<_, max}
 use native.Mathlib.Omega.{arith}
 use mathlib.Core.Path.{_≡_, refl, ap, ap₂, sym, _∙_, subst}
 use mathlib.Core.List.{List, [], _∷_, _++_, map, append-assoc}
 use mathlib.Core.Option.{Option, none, some}
 use lib.ListN.{length, take, drop, set, length-append}
-use lib.Seq.{set-at, set-out, append-snoc, take-nil}
+use lib.Seq.{set-at, set-out, take-nil}
 use Rattle.words.specs.Words.{written}
 use Rattle.csv.specs.Records.{fields, field-at}
 use Rattle.csv.specs.Number.{number, numbers, greatest, leading, capped}

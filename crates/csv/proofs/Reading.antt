@@ -1,7 +1,7 @@
 -- What a reader that goes from left to right has of a table: its first record and the rest, a record's first field and the rest, by place;
 -- and what a reader may do with the numbers and answers it is handed. Assumes nothing.
-use Prim.Native.Nat.{ℕ, zero, suc, _+_, _-_, _≤_, _<_, min, max}
-use native.Mathlib.Nat.{not-suc-le-zero, le-of-suc-le-suc, le-refl}
+use Prim.Native.Nat.{ℕ, suc, _+_, _-_, _≤_, _<_, min, max}
+use native.Mathlib.Nat.{not-suc-le-zero}
 use native.Mathlib.Numerals.{add-one}
 use native.Mathlib.Omega.{arith}
 use mathlib.Core.Path.{_≡_, refl, ap, sym, _∙_, subst}
@@ -14,7 +14,7 @@ use lib.ListN.{length, take, drop, getD, drop-of-length-le, length-drop, length-
 use lib.Seq.{drop-cons, take-all, take-append-seam, drop-append-add, getD-drop, drop-drop}
 use mir.Facts.{and-yes}
 use borrow.Author.Tests.{eq-eqb, ne-eqb, le-leb, lt-leb, leb-true, leb-false}
-use Rattle.csv.specs.Records.{push, pieces, unended, records, first-record, widen, fields, field-at}
+use Rattle.csv.specs.Records.{push, pieces, records, first-record, widen, fields, field-at}
 use Rattle.csv.specs.Number.{number, numbers, greatest, leading, capped}
 use Rattle.csv.specs.Answers.{number-answer, fields-answer}
 use Rattle.csv.specs.declared.Number.{Number}
@@ -136,7 +136,7 @@ fronted b c u false e (inr (r, rest, n, q, f)) = inr (subst (λ (x : List ℕ). 
         let same : c ≡ d = ap (λ (x : List ℕ). getD x 0 0) q in
         subst (λ (x : ℕ). T (not (ends b x) && no-end (d ∷ r))) same (rw e n)
 
-pub first-split : (t : List ℕ) → Whole t ⊎ Ended t
+first-split : (t : List ℕ) → Whole t ⊎ Ended t
 first-split [] = inl (whole [] tt)
 first-split (b ∷ []) = inl (whole (b ∷ []) tt)
 first-split (b ∷ c ∷ u) = fronted b c u (ends b c) refl (first-split (c ∷ u))

@@ -1,9 +1,9 @@
 -- `csv::field_end` meets its contract: the end seen from the start is the end seen from i.
 -- Assumes nothing.
 use mathlib.Core.Path.{_≡_, refl, ap}
-use Prim.Native.Nat.{ℕ, _≤_, _-_, _+_}
+use Prim.Native.Nat.{_≤_, _-_, _+_}
 use native.Mathlib.Omega.{arith}
-use lib.ListN.{length, drop}
+use lib.ListN.{length}
 use borrow.Author.Needs.{needs}
 use Rattle.csv.specs.Records.{field-at}
 use Rattle.csv.proofs.Reading.{field-comma, field-goes-on, field-over}

@@ -1,11 +1,10 @@
 -- `csv::first_record` meets its contract.
 -- Assumes nothing.
-use mathlib.Core.Path.{_≡_, sym, ap, subst, _∙_}
+use mathlib.Core.Path.{sym, ap, subst, _∙_}
 use Prim.Native.Nat.{ℕ, _≤_}
 use lib.ListN.{length, take}
 use lib.Seq.{length-take-le}
 use borrow.Author.Needs.{needs}
-use Rattle.csv.specs.Records.{first-record}
 use Rattle.csv.proofs.Reading.{first-record-fits, first-record-front}
 use Rattle.csv.proofs.first_record.Statement.{statement}
 use Rattle.csv.proofs.first_record.Tie as tie

@@ -1,10 +1,9 @@
 -- `csv::parse_number` meets its contract: the digits from place i on, after those that make v, give what all of them give.
 -- Assumes nothing.
-use mathlib.Core.Path.{_≡_, refl, sym, ap, _∙_}
-use Prim.Native.Nat.{ℕ, _≤_, _<_, _-_, _+_, _^_}
+use mathlib.Core.Path.{_≡_, sym, ap, _∙_}
+use Prim.Native.Nat.{_≤_, _<_, _-_, _^_}
 use native.Mathlib.Omega.{arith}
 use lib.ListN.{length, drop}
-use borrow.Author.Needs.{needs}
 use Rattle.csv.specs.Number.{decimal, number}
 use Rattle.csv.specs.Answers.{number-answer}
 use Rattle.csv.proofs.Digits.{decimal-low, decimal-high, decimal-more, decimal-end, number-nil, number-long, number-zero, number-zeros, number-digits, ten-pow, ten-suc}

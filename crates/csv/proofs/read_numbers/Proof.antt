@@ -2,11 +2,10 @@
 -- Assumes nothing.
 use mathlib.Core.Path.{_≡_, refl, sym, ap, _∙_}
 use mathlib.Core.Logic.{⊎-elim}
-use Prim.Native.Nat.{ℕ, _≤_, _<_, _-_, _+_, max}
+use Prim.Native.Nat.{_≤_, _-_, max}
 use native.Mathlib.Omega.{arith}
 use borrow.Author.Needs.{needs}
-use mathlib.Core.List.{List}
-use lib.ListN.{length, drop, set, length-set, length-drop}
+use lib.ListN.{length, drop, set, length-set}
 use lib.Seq.{set-out}
 use Rattle.csv.specs.Records.{fields}
 use Rattle.csv.specs.Number.{capped}
@@ -23,8 +22,13 @@ abbrev μ-loop : tie.MeasureT-loop
 
 -- the number is put at its place, if there is one
 stored : (c : tie.Joined1 Inv-loop μ-loop) →
-    c .if1 .out ≡ set (c .before .before .before .before .before .before .loop .out) (c .before .before .before .before .before .before .loop .i) (capped (c .before .before .x .given .0 .0))
-stored c = ⊎-elim (λ w. w .2 ∙ ap (set (c .before .before .before .before .before .before .loop .out) (c .before .before .before .before .before .before .loop .i)) (w .1 .ensures)) (λ w. w .1 ∙ sym (set-out _ _ _ (w .0 .left))) (c .if1 .came)
+    let l = c .before .before .before .before .before .before .loop in
+    c .if1 .out ≡ set (l .out) (l .i) (capped (c .before .before .x .given .0 .0))
+stored c =
+    ⊎-elim
+    (λ w. w .2 ∙ ap (set (c .before .before .before .before .before .before .loop .out) (c .before .before .before .before .before .before .loop .i)) (w .1 .ensures))
+    (λ w. w .1 ∙ sym (set-out _ _ _ (w .0 .left)))
+    (c .if1 .came)
 
 -- the greatest number is kept
 higher : (c : tie.Joined2 Inv-loop μ-loop) →

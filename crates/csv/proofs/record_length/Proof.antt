@@ -1,8 +1,8 @@
 -- `csv::record_length` meets its contract: the first record's length seen from the start is the length seen from i, and i.
 -- Assumes nothing.
-use mathlib.Core.Path.{_≡_, refl, ap}
+use mathlib.Core.Path.{_≡_}
 use mathlib.Core.Logic.{⊎-elim}
-use Prim.Native.Nat.{ℕ, _≤_, _-_, _+_}
+use Prim.Native.Nat.{_≤_, _-_, _+_}
 use native.Mathlib.Omega.{arith}
 use lib.ListN.{length, drop, getD}
 use borrow.Author.Needs.{needs}

@@ -1,10 +1,9 @@
 -- `csv::same_bytes` meets its contract.
 -- Assumes nothing.
 use mathlib.Core.Path.{_≡_, refl, sym, _∙_}
-use Prim.Native.Nat.{ℕ, _≤_, _-_, _+_}
+use Prim.Native.Nat.{_≤_, _-_}
 use native.Mathlib.Omega.{arith}
 use lib.ListN.{length, drop}
-use borrow.Author.Needs.{needs}
 use Rattle.csv.specs.Text.{same}
 use Rattle.csv.proofs.Text.{same-lengths, same-other, same-more, same-end}
 use Rattle.csv.proofs.same_bytes.Statement.{statement}
