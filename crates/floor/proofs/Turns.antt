@@ -2,7 +2,6 @@
 -- Assumes nothing.
 use Prim.Native.Nat.{ℕ, zero, suc, _+_, _*_, _-_, _≤_, _<_}
 use native.Mathlib.Nat.{sub-zero, mul-zero, mul-suc}
-use native.Mathlib.Numerals.{add-one}
 use native.Mathlib.Omega.{arith}
 use mathlib.Core.Path.{_≡_, refl, ap, sym, _∙_, subst}
 use mathlib.Core.Bool.{Bool, true, false}
@@ -19,7 +18,7 @@ use Rattle.floor.specs.declared.Table.{Table}
 use Rattle.floor.specs.declared.Refusal.{Refusal}
 use Rattle.floor.specs.declared.Taken.{Taken}
 use Rattle.floor.specs.declared.Count.{Count}
-use Rattle.floor.specs.Refusal.{Judged, refused, accepted, _>>=_, need, given, records-in-order}
+use Rattle.floor.specs.Refusal.{Judged, refused, accepted, _>>=_, need, given, next, records-in-order}
 use Rattle.floor.specs.Reading.{taken, stored, counted}
 use Rattle.floor.proofs.Judging.{refused-not-accepted, accepted-same}
 
@@ -141,6 +140,15 @@ module _ {A : Type 0} (judge : List A → List ℕ → Judged A) (numbers : A �
   abbrev pub Ends : Judged (List A) → ℕ → Count → List ℕ → Type 0
   Ends whole size r s = (r ≡ counted whole) × ((as′ : List A) → whole ≡ accepted as′ → s ≡ padded size (flatMap numbers as′))
 
+  -- of a table that is refused, whatever the array holds
+  pub refused-ends : (whole : Judged (List A)) (size : ℕ) (s : List ℕ) (r : Refusal) → whole ≡ refused r → Ends whole size (Count.Refused r) s
+  unfolding counted
+  refused-ends whole size s r e = (sym (ap counted e), λ as′ f. absurd (refused-not-accepted r as′ (sym e ∙ f)))
+
+  -- of a table that says what another says
+  pub ends-as : (whole other : Judged (List A)) (size : ℕ) (r : Count) (s : List ℕ) → whole ≡ other → Ends other size r s → Ends whole size r s
+  ends-as whole other size r s e h = subst (λ (x : Judged (List A)). Ends x size r s) (sym e) h
+
   -- after the last
   pub last-turn : (whole : Judged (List A)) (t : List ℕ) (size : ℕ) (s : List ℕ) (at n : ℕ) → Turn judge numbers whole t size s at n → length t ≤ at
       → Ends whole size (Count.Read n) s
@@ -167,8 +175,16 @@ module _ {A : Type 0} (judge : List A → List ℕ → Judged A) (numbers : A �
       → (r : Refusal) → judge (u .before) (first-record (drop at t)) ≡ refused r → Ends whole size (Count.Refused r) s′
   unfolding _>>=_ counted
   refused-turn whole t size s s′ at n u h r j =
-      let e : whole ≡ refused r = u .rest ∙ turn-is (u .before) t at h ∙ ap (λ (x : Judged A). x >>= λ a. records-in-order judge (u .before ++ (a ∷ [])) (records (drop (at + length (first-record (drop at t)) + 2) t))) j in
-      (sym (ap counted e), λ as′ f. absurd (refused-not-accepted r as′ (sym e ∙ f)))
+      refused-ends whole size s′ r
+      (u .rest ∙ turn-is (u .before) t at h ∙ ap (λ (x : Judged A). x >>= λ a. records-in-order judge (u .before ++ (a ∷ [])) (records (drop (at + length (first-record (drop at t)) + 2) t))) j)
+
+  -- and its refusal has the number of its turn
+  pub refused-number : (whole : Judged (List A)) (t : List ℕ) (size : ℕ) (s : List ℕ) (at n : ℕ) (u : Turn judge numbers whole t size s at n) (table : Table)
+      (j : Judged A) (why : Reason) → Says table (next (u .before)) j → taken j ≡ Taken.Refused why → j ≡ refused (record { reason = why; table = table; row = n + 1 })
+  unfolding next
+  refused-number whole t size s at n u table j why h e =
+      refused-there table (suc (length (u .before))) j why h e
+      ∙ ap (λ (i : ℕ). refused (record { reason = why; table = table; row = i })) {x = suc (length (u .before))} {y = n + 1} (omega (arith, u .count))
 
   -- one that is taken goes before the next
   pub taken-turn : (whole : Judged (List A)) (t : List ℕ) (size : ℕ) (s s′ : List ℕ) (at n : ℕ) (u : Turn judge numbers whole t size s at n) → at < length t
@@ -187,3 +203,13 @@ module _ {A : Type 0} (judge : List A → List ℕ → Judged A) (numbers : A �
             u .rest ∙ turn-is (u .before) t at h
             ∙ ap (λ (x : Judged A). x >>= λ a. records-in-order judge (u .before ++ (a ∷ [])) (records (drop (at + length (first-record (drop at t)) + 2) t))) j;
       }
+
+  -- the same, of a part of the table that is that record
+  pub taken-row : (whole : Judged (List A)) (t : List ℕ) (size : ℕ) (s s′ : List ℕ) (at n : ℕ) (u : Turn judge numbers whole t size s at n) → at < length t
+      → (r : List ℕ) → r ≡ first-record (drop at t)
+      → (a : A) → judge (u .before) (first-record (drop at t)) ≡ accepted a
+      → length (flatMap numbers (u .before)) + length (numbers a) ≤ size
+      → s′ ≡ sets s (length (flatMap numbers (u .before))) (numbers a)
+      → Turn judge numbers whole t size s′ (at + length r + 2) (n + 1)
+  taken-row whole t size s s′ at n u h r e a j room put =
+      subst (λ (x : List ℕ). Turn judge numbers whole t size s′ (at + length x + 2) (n + 1)) (sym e) (taken-turn whole t size s s′ at n u h a j room put)
