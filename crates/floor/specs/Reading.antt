@@ -122,7 +122,12 @@ reading ts a =
       | true ↦ record { answer = read-answer (read-tables ts); arrays = arrays-judged a (read-tables ts) }
     ]
 
+-- the same, of the six slices lent to the reader
+unfoldable pub read-into : List ℕ → List ℕ → List ℕ → List ℕ → List ℕ → List ℕ → Outcome
+read-into roads carts paths edges speeds cells =
+    reading (record { roads = roads; carts = carts; paths = paths }) (record { roads = edges; carts = speeds; cells = cells })
+
 -- Names every definition of this module, for a proof that computes with them all.
 unfoldable pub open-reading : Unit {0}
-unfolding taken stored counted speeds speeds-of path-taken paths-read apart found room read-answer zeros numbers-of arrays-judged reading
+unfolding taken stored counted speeds speeds-of path-taken paths-read apart found room read-answer zeros numbers-of arrays-judged reading read-into
 open-reading = tt
