@@ -8,12 +8,11 @@ ghost use mathlib.Core.Path.{_≡_};
 ghost use mathlib.Core.List.{List, flatMap};
 ghost use Prim.Native.Nat.{ℕ, _*_, _≤_};
 ghost use lib.ListN.{length, replicate};
-ghost use Rattle.floor.specs.Refusal.{_>>=_, accepted};
+ghost use Rattle.floor.specs.Refusal.{accepted};
 ghost use Rattle.floor.specs.Plan.{Plan};
-ghost use Rattle.floor.specs.Paths.{read-paths};
 ghost use Rattle.floor.specs.Tables.{read-tables};
 ghost use Rattle.floor.specs.Arrays.{road-numbers, cart-numbers, path-cells, roads-in, paths-in};
-ghost use Rattle.floor.specs.Reading.{apart, paths-read, read-answer, read-into};
+ghost use Rattle.floor.specs.Reading.{apart, read-apart, paths-read, read-answer, read-into};
 ghost use Rattle.words.specs.Words.{padded};
 
 // Why a load is turned down because of its tables; specs/Refusal.antt gives each case its number.
@@ -130,8 +129,8 @@ fn judge_paths(edges: &[u32], n: usize, cells: &[u32], carts: usize, w: usize) -
 // The table of paths read and held against the n roads and against each other.
 fn read_apart(edges: &[u32], n: usize, table: &[u8], carts: usize, cells: &mut [u32]) -> PathsRead
     requires { ⌜ (1 ≤ carts) × (4 * n ≤ length (now edges)) × (8192 ≤ length (now cells)) × (now cells ≡ replicate (length (now cells)) 0) ⌝ }
-    ensures answer { λ r. ⌜ r ≡ paths-read (read-paths carts (now (table .entry)) >>= apart (roads-in n (now (edges .entry)))) ⌝ }
-    ensures left { λ _. ⌜ ((ps : List (List ℕ)) → (read-paths carts (now (table .entry)) >>= apart (roads-in n (now (edges .entry)))) ≡ accepted ps → now (cells .exit) ≡ padded (length (now (cells .entry))) (path-cells ps)) ⌝ }
+    ensures answer { λ r. ⌜ r ≡ paths-read (read-apart (roads-in n (now (edges .entry))) carts (now (table .entry))) ⌝ }
+    ensures left { λ _. ⌜ ((ps : List (List ℕ)) → read-apart (roads-in n (now (edges .entry))) carts (now (table .entry)) ≡ accepted ps → now (cells .exit) ≡ padded (length (now (cells .entry))) (path-cells ps)) ⌝ }
 {
     let x = paths::read_table(table, carts, cells);
     match x {
