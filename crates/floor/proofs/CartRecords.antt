@@ -5,31 +5,33 @@ use native.Mathlib.Omega.{arith}
 use mathlib.Core.Path.{_≡_, refl, ap, ap₂, sym, _∙_, subst}
 use mathlib.Core.Bool.{Bool, true, false, _&&_, not, cond}
 use mathlib.Core.List.{List, [], _∷_, flatMap}
-use mathlib.Core.Option.{Option, none, some, Option·getD}
+use mathlib.Core.Option.{Option, none, some}
 use mir.Facts.{and-yes}
 use lib.Dec.{T, leb, eqb, leb→le}
 use lib.ListN.{length, drop, getD, set}
 use lib.Seq.{sets}
 use borrow.Author.Tests.{lt-leb, le-leb, ne-eqb, not-true, not-false}
 use Rattle.csv.specs.declared.Number.{Number}
+use Rattle.csv.specs.Text.{bytes, same}
 use Rattle.csv.specs.Records.{records, first-record, fields, field-at}
 use Rattle.csv.specs.Number.{number}
 use Rattle.csv.specs.Answers.{number-answer}
 use Rattle.csv.proofs.Reading.{some-field, fields-more, fields-end, fields-more-at, fields-end-at, answered-value, answered-malformed}
 use Rattle.floor.specs.declared.Reason.{Reason}
-use Rattle.floor.specs.declared.Reason.the-variants.{Layout, Range, Limit}
+use Rattle.floor.specs.declared.Reason.the-variants.{Layout, Range, Limit, NoCarts}
 use Rattle.floor.specs.declared.Table.the-variants.{Carts}
 use Rattle.floor.specs.declared.Refusal.{Refusal}
 use Rattle.floor.specs.declared.Taken.{Taken}
 use Rattle.floor.specs.declared.Count.{Count}
 use Rattle.floor.specs.declared.Speeds.{Speeds}
-use Rattle.floor.specs.Refusal.{Judged, refused, accepted, _>>=_, _>>_, need, given, next}
+use Rattle.floor.specs.Refusal.{Judged, refused, accepted, _>>=_, _>>_, need, given, within-bytes, after-first-line, next, records-in-order}
 use Rattle.floor.specs.Plan.{Cart}
-use Rattle.floor.specs.Carts.{number-or-empty, fastest-range, slowest-range, cart}
+use Rattle.floor.specs.Carts.{number-or-empty, fastest-range, slowest-range, cart, read-carts}
 use Rattle.floor.specs.Arrays.{cart-numbers, carts-in}
-use Rattle.floor.specs.Reading.{taken, stored, speeds, speeds-of}
-use Rattle.floor.proofs.Judging.{pass, stop, got, lacks}
+use Rattle.floor.specs.Reading.{taken, stored, counted, speeds, speeds-of}
+use Rattle.floor.proofs.Judging.{pass, stop, goes-on, ends}
 use Rattle.floor.proofs.Accepted.{cart-sound}
+use Rattle.floor.proofs.FirstLine.{at-none, bytes-over, bytes-within, line-other, line-there, counted-read, counted-refused, refused-ends}
 use Rattle.floor.proofs.Turns.{Says, says-need, says-given, left-refused, left-taken, refused-there, accepted-there, flat-length, Turn, Ends, refused-turn, taken-turn}
 
 -- ---- the speeds of a record
@@ -283,3 +285,55 @@ module _ (whole : Judged (List Cart)) (t : List ℕ) (size : ℕ) (s : List ℕ)
       put ∙ ap (λ (x : Judged Cart). stored cart-numbers (2 * n) x s) (by-turn ∙ j) ∙ ap (λ (i : ℕ). sets s i (cart-numbers c)) (sym so) in
       let next-turn = taken-turn cart cart-numbers whole t size s s′ at n u h c j (omega (arith, so, two, room, few, u .count)) put′ in
       (omega (arith, few, u .count), subst (λ (k : ℕ). Turn cart cart-numbers whole t size s′ (at + k + 2) (n + 1)) (sym (ap (length {A = ℕ}) row)) next-turn)
+
+-- ---- the table
+
+module _ (b : List ℕ) (size : ℕ) (s : List ℕ) where
+  -- the answer and the array after the table
+  abbrev pub Read : Count → Type 0
+  Read x = Ends cart cart-numbers (read-carts b) size x s
+
+  -- too many bytes
+  pub read-over : 65536 < length b → Read (Count.Refused (at-none Carts Limit))
+  unfolding read-carts
+  read-over h = refused-ends cart cart-numbers (read-carts b) size s _ (ends (within-bytes Carts b) _ _ (bytes-over Carts b h))
+
+  module _ (few : length b ≤ 65536) where
+    -- another first line
+    pub read-other : {t : Bool} → t ≡ same (bytes "fastest,slowest") (first-record b) → not t ≡ true → Read (Count.Refused (at-none Carts Layout))
+    unfolding read-carts
+    read-other {t} e k =
+        refused-ends cart cart-numbers (read-carts b) size s _
+        (goes-on (within-bytes Carts b) _ tt (bytes-within Carts b few)
+        ∙ ends (after-first-line (bytes "fastest,slowest") Carts (records b)) _ _ (line-other (bytes "fastest,slowest") Carts b (sym e ∙ not-true t k)))
+
+    module _ {t : Bool} (line : t ≡ same (bytes "fastest,slowest") (first-record b)) (k : not t ≡ false) where
+      -- the records after the first line
+      listed : read-carts b ≡ (records-in-order cart [] (records (drop 17 b)) >>= λ cs. need (leb 1 (length cs)) NoCarts Carts 0 >>= λ _. accepted cs)
+      unfolding read-carts bytes
+      listed =
+          goes-on (within-bytes Carts b) _ tt (bytes-within Carts b few)
+          ∙ goes-on (after-first-line (bytes "fastest,slowest") Carts (records b)) _ _ (line-there (bytes "fastest,slowest") Carts b (omega arith) (sym line ∙ not-false t k))
+
+      module _ {x : Count} (from : Ends cart cart-numbers (records-in-order cart [] (records (drop 17 b))) size x s) where
+        -- no carts
+        pub read-none : (n : ℕ) → x ≡ Count.Read n → n ≡ 0 → Read (Count.Refused (at-none Carts NoCarts))
+        read-none n e z =
+            let (cs, j, l) = counted-read (records-in-order cart [] (records (drop 17 b))) n (sym e ∙ from .0) in
+            refused-ends cart cart-numbers (read-carts b) size s _
+            (listed ∙ goes-on _ _ cs j ∙ stop (leb 1 (length cs)) NoCarts Carts 0 _ (lt-leb 1 (length cs) (omega (arith, l, z))))
+
+        -- some carts
+        pub read-some : (n : ℕ) → x ≡ Count.Read n → (n ≡ 0 → ⊥) → Read (Count.Read n)
+        unfolding counted
+        read-some n e z =
+            let (cs, j, l) = counted-read (records-in-order cart [] (records (drop 17 b))) n (sym e ∙ from .0) in
+            let some-there : 1 ≤ length cs = omega (arith, l, z) in
+            let all : read-carts b ≡ accepted cs = listed ∙ goes-on _ _ cs j ∙ pass (leb 1 (length cs)) NoCarts Carts 0 _ (le-leb 1 (length cs) some-there) in
+            (ap Count.Read (sym l) ∙ sym (ap counted all), λ as′ f. from .1 as′ (j ∙ sym all ∙ f))
+
+        -- a record that is refused
+        pub read-refused : (r : Refusal) → x ≡ Count.Refused r → Read x
+        read-refused r e =
+            let j : read-carts b ≡ refused r = listed ∙ ends _ _ r (counted-refused (records-in-order cart [] (records (drop 17 b))) r (sym e ∙ from .0)) in
+            subst (λ (y : Count). Ends cart cart-numbers (read-carts b) size y s) (sym e) (refused-ends cart cart-numbers (read-carts b) size s r j)
