@@ -107,7 +107,7 @@ speeds-sound f s t =
     record { fast = leb→le 1000 f (and-yes (leb 1000 f) _ fast .0); slow = slowest-sound f s slow }
 
 -- so of a record that is taken for a cart, which is at most the 64th
-cart-sound : (before : List Cart) (r : List ℕ) (c : Cart) → cart before r ≡ accepted c → SoundCart c × (suc (length before) ≤ 64)
+pub cart-sound : (before : List Cart) (r : List ℕ) (c : Cart) → cart before r ≡ accepted c → SoundCart c × (suc (length before) ≤ 64)
 unfolding cart next
 cart-sound before r c e =
     let fs : List (List ℕ) = fields r in
