@@ -1,4 +1,5 @@
 // The simple temporal network of a plan: its events and bounds. The definitions are in specs/.
+mod count;
 ghost use mathlib.Core.Path.{_≡_};
 ghost use Rattle.network.specs.Limits.{paths-within};
 
