@@ -1,14 +1,16 @@
 -- The counts of paths in an array, one step of a loop after the other. Assumes nothing.
 use Prim.Native.Nat.{ℕ, zero, suc, _+_, _*_, _-_, _≤_, _<_}
+use native.Mathlib.Nat.{min-le-left, suc-mul}
 use native.Mathlib.Numerals.{add-one}
 use native.Mathlib.Omega.{arith}
 use mathlib.Core.Path.{_≡_, refl, ap, sym, _∙_}
-use mathlib.Core.Bool.{Bool, cond}
+use mathlib.Core.Bool.{Bool, true, false, cond}
 use mathlib.Core.List.{List, [], _∷_, _++_, map, append-assoc}
 use lib.Dec.{eqb}
-use lib.ListN.{length, take, drop, getD, set}
-use lib.Seq.{drop-cons, getD-set-same, getD-set-other}
+use lib.ListN.{length, take, drop, getD, set, length-take}
+use lib.Seq.{drop-cons, drop-drop, getD-set-same, getD-set-other}
 use borrow.Author.Tests.{eq-eqb, ne-eqb}
+use Rattle.floor.specs.Arrays.{paths-in}
 use Rattle.network.specs.Events.{Visit, visits-after, visits-of}
 use Rattle.network.specs.Counts.{total, moves-after, moves, Stop, stop, stops, stop-at, stops-in}
 
@@ -97,3 +99,56 @@ module _ (s : List ℕ) (at w : ℕ) (fits : at + w ≤ length s) where
   pub visits-none : (c t : ℕ) → w ≤ t → visits-after c t (steps-from s at w t) ≡ []
   unfolding visits-after
   visits-none c t l = ap (visits-after c t) (steps-none t l)
+
+-- ---- paths in an array
+
+-- no more moves than cells
+moves-after-most : (ds : List ℕ) (c : ℕ) → moves-after c ds ≤ length ds
+unfolding moves-after
+moves-after-most [] c = omega arith
+moves-after-most (d ∷ ds) c = by (eqb c d) (moves-after-most ds d)
+  where
+    by : (b : Bool) → moves-after d ds ≤ length ds → cond b (moves-after d ds) (suc (moves-after d ds)) ≤ suc (length ds)
+    by true h = omega arith
+    by false h = omega arith
+
+moves-most : (q : List ℕ) → moves q ≤ length q
+unfolding moves
+moves-most [] = omega arith
+moves-most (c ∷ cs) = let h : moves-after c cs ≤ length cs = moves-after-most cs c in omega arith
+
+-- than steps
+pub path-moves-most : (w : ℕ) (r : List ℕ) → moves (take w r) ≤ w
+path-moves-most w r = omega (arith, moves-most (take w r), length-take w r, min-le-left w (length r))
+
+-- the path at hand and those after it
+pub paths-cons : (n i w at : ℕ) (s : List ℕ) → i < n → paths-in (n - i) w (drop at s) ≡ take w (drop at s) ∷ paths-in (n - (i + 1)) w (drop (at + w) s)
+unfolding paths-in
+paths-cons n i w at s l =
+    let one : n - i ≡ suc (n - (i + 1)) = omega arith in
+    ap (λ (m : ℕ). paths-in m w (drop at s)) one ∙ ap (λ (r : List ℕ). take w (drop at s) ∷ paths-in (n - (i + 1)) w r) (drop-drop w at s)
+
+-- none after the last
+pub paths-none : (n i w : ℕ) (r : List ℕ) → n ≤ i → paths-in (n - i) w r ≡ []
+unfolding paths-in
+paths-none n i w r l = let none : n - i ≡ 0 = omega arith in ap (λ (m : ℕ). paths-in m w r) none
+
+-- the rows left, with the one at hand
+pub rows-left : (n i w : ℕ) → i < n → (n - i) * w ≡ w + (n - (i + 1)) * w
+rows-left n i w l =
+    let one : n - i ≡ suc (n - (i + 1)) = omega arith in
+    ap (λ (m : ℕ). m * w) one ∙ omega (arith, suc-mul (n - (i + 1)) w)
+
+-- the moves of the path at hand, and of those after it
+pub all-moves-cons : (n i w at : ℕ) (s : List ℕ) → i < n
+    → total moves (paths-in (n - i) w (drop at s)) ≡ moves (take w (drop at s)) + total moves (paths-in (n - (i + 1)) w (drop (at + w) s))
+unfolding total
+all-moves-cons n i w at s l = ap (total moves) (paths-cons n i w at s l)
+
+pub all-moves-none : (n i w : ℕ) (r : List ℕ) → n ≤ i → total moves (paths-in (n - i) w r) ≡ 0
+unfolding total
+all-moves-none n i w r l = ap (total moves) (paths-none n i w r l)
+
+-- from the first on
+pub from-first : (n w : ℕ) (s : List ℕ) → paths-in (n - 0) w (drop 0 s) ≡ paths-in n w s
+from-first n w s = let all : n - 0 ≡ n = omega arith in ap (λ (m : ℕ). paths-in m w s) all
