@@ -4,6 +4,7 @@ use native.Mathlib.Nat.{min-le-left, suc-mul}
 use native.Mathlib.Numerals.{add-one}
 use native.Mathlib.Omega.{arith}
 use mathlib.Core.Path.{_≡_, refl, ap, sym, _∙_}
+use mathlib.Core.Logic.{_≢_}
 use mathlib.Core.Bool.{Bool, true, false, cond}
 use mathlib.Core.List.{List, [], _∷_, _++_, map, append-assoc}
 use lib.Dec.{eqb}
@@ -152,3 +153,55 @@ all-moves-none n i w r l = ap (total moves) (paths-none n i w r l)
 -- from the first on
 pub from-first : (n w : ℕ) (s : List ℕ) → paths-in (n - 0) w (drop 0 s) ≡ paths-in n w s
 from-first n w s = let all : n - 0 ≡ n = omega arith in ap (λ (m : ℕ). paths-in m w s) all
+
+-- ---- visits in arrays
+
+module _ (ns ts cs : List ℕ) where
+  -- what is put behind n visits comes after them
+  stops-behind : (n : ℕ) → n < length ns → n < length ts → n < length cs → (a t c k i : ℕ) → i + k ≡ n
+      → stops-in (set ns n a) (set ts n t) (set cs n c) (suc k) i ≡ stops-in ns ts cs k i ++ (record { cart = a; step = t; cell = c } ∷ [])
+  unfolding stops-in stop-at
+  stops-behind n la lt lc a t c zero i e =
+      let here : i ≡ n = omega arith in
+      ap (λ (m : ℕ). stop-at (set ns n a) (set ts n t) (set cs n c) m ∷ []) here
+      ∙ ap (λ (x : ℕ). record { cart = x; step = getD (set ts n t) n 0; cell = getD (set cs n c) n 0 } ∷ []) (getD-set-same ns n a 0 la)
+      ∙ ap (λ (x : ℕ). record { cart = a; step = x; cell = getD (set cs n c) n 0 } ∷ []) (getD-set-same ts n t 0 lt)
+      ∙ ap (λ (x : ℕ). record { cart = a; step = t; cell = x } ∷ []) (getD-set-same cs n c 0 lc)
+  stops-behind n la lt lc a t c (suc k) i e =
+      let before : i ≢ n = λ q. omega arith in
+      ap (λ (x : ℕ). record { cart = x; step = getD (set ts n t) i 0; cell = getD (set cs n c) i 0 } ∷ more) (getD-set-other ns n i a 0 before)
+      ∙ ap (λ (x : ℕ). record { cart = getD ns i 0; step = x; cell = getD (set cs n c) i 0 } ∷ more) (getD-set-other ts n i t 0 before)
+      ∙ ap (λ (x : ℕ). record { cart = getD ns i 0; step = getD ts i 0; cell = x } ∷ more) (getD-set-other cs n i c 0 before)
+      ∙ ap (λ (r : List Stop). stop-at ns ts cs i ∷ r) (stops-behind n la lt lc a t c k (suc i) (omega arith))
+    where
+      more : List Stop
+      more = stops-in (set ns n a) (set ts n t) (set cs n c) (suc k) (suc i)
+
+  -- one visit of a cart is put there, others are to come
+  pub put-one : (n : ℕ) → n < length ns → n < length ts → n < length cs → (a t c : ℕ) (vs : List Visit)
+      → stops-in (set ns n a) (set ts n t) (set cs n c) (n + 1) 0 ++ map (stop a) vs ≡ stops-in ns ts cs n 0 ++ map (stop a) (record { step = t; cell = c } ∷ vs)
+  unfolding stop
+  put-one n la lt lc a t c vs =
+      ap (λ (m : ℕ). stops-in (set ns n a) (set ts n t) (set cs n c) m 0 ++ map (stop a) vs) (add-one n)
+      ∙ ap (λ (r : List Stop). r ++ map (stop a) vs) (stops-behind n la lt lc a t c n 0 (omega arith))
+      ∙ append-assoc (stops-in ns ts cs n 0) (record { cart = a; step = t; cell = c } ∷ []) (map (stop a) vs)
+
+  -- the arrays then
+  pub put-next : (n : ℕ) → n < length ns → n < length ts → n < length cs → (a t c : ℕ) (vs : List Visit) (ns' ts' cs' : List ℕ) (m : ℕ)
+      → ns' ≡ set ns n a → ts' ≡ set ts n t → cs' ≡ set cs n c → m ≡ n + 1
+      → stops-in ns' ts' cs' m 0 ++ map (stop a) vs ≡ stops-in ns ts cs n 0 ++ map (stop a) (record { step = t; cell = c } ∷ vs)
+  put-next n la lt lc a t c vs ns' ts' cs' m en et ec em =
+      ap (λ (x : List ℕ). stops-in x ts' cs' m 0 ++ map (stop a) vs) en
+      ∙ ap (λ (x : List ℕ). stops-in (set ns n a) x cs' m 0 ++ map (stop a) vs) et
+      ∙ ap (λ (x : List ℕ). stops-in (set ns n a) (set ts n t) x m 0 ++ map (stop a) vs) ec
+      ∙ ap (λ (x : ℕ). stops-in (set ns n a) (set ts n t) (set cs n c) x 0 ++ map (stop a) vs) em
+      ∙ put-one n la lt lc a t c vs
+
+-- the arrays are as they were
+pub put-none : (ns ts cs ns' ts' cs' : List ℕ) (n m : ℕ) (r : List Stop) → ns' ≡ ns → ts' ≡ ts → cs' ≡ cs → m ≡ n
+    → stops-in ns' ts' cs' m 0 ++ r ≡ stops-in ns ts cs n 0 ++ r
+put-none ns ts cs ns' ts' cs' n m r en et ec em =
+    ap (λ (x : List ℕ). stops-in x ts' cs' m 0 ++ r) en
+    ∙ ap (λ (x : List ℕ). stops-in ns x cs' m 0 ++ r) et
+    ∙ ap (λ (x : List ℕ). stops-in ns ts x m 0 ++ r) ec
+    ∙ ap (λ (x : ℕ). stops-in ns ts cs x 0 ++ r) em
