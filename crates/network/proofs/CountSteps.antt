@@ -13,7 +13,7 @@ use lib.Seq.{drop-cons, drop-drop, getD-set-same, getD-set-other}
 use borrow.Author.Tests.{eq-eqb, ne-eqb}
 use Rattle.floor.specs.Arrays.{paths-in}
 use Rattle.network.specs.Events.{Visit, visits-after, visits-of}
-use Rattle.network.specs.Counts.{total, moves-after, moves, Stop, stop, stops, stop-at, stops-in}
+use Rattle.network.specs.Counts.{total, moves-after, moves, Stop, stop, stops, counted, later-carts, goes-on, orders-from, stop-at, stops-in}
 
 -- ---- a path in an array
 
@@ -205,3 +205,96 @@ put-none ns ts cs ns' ts' cs' n m r en et ec em =
     ∙ ap (λ (x : List ℕ). stops-in ns x cs' m 0 ++ r) et
     ∙ ap (λ (x : List ℕ). stops-in ns ts x m 0 ++ r) ec
     ∙ ap (λ (x : ℕ). stops-in ns ts cs x 0 ++ r) em
+
+-- the visits of the path at hand, and of those after it
+pub stops-path : (n i w at : ℕ) (s : List ℕ) → i < n
+    → stops (i + 1) (paths-in (n - i) w (drop at s))
+    ≡ map (stop (i + 1)) (visits-of (take w (drop at s))) ++ stops (i + 1 + 1) (paths-in (n - (i + 1)) w (drop (at + w) s))
+unfolding stops
+stops-path n i w at s l =
+    ap (stops (i + 1)) (paths-cons n i w at s l)
+    ∙ ap (λ (j : ℕ). map (stop (i + 1)) (visits-of (take w (drop at s))) ++ stops j (paths-in (n - (i + 1)) w (drop (at + w) s))) (sym (add-one (i + 1)))
+
+pub stops-done : (n i w j : ℕ) (r : List ℕ) → n ≤ i → stops j (paths-in (n - i) w r) ≡ []
+unfolding stops
+stops-done n i w j r l = ap (stops j) (paths-none n i w r l)
+
+-- ---- visits counted
+
+module _ (ns ts cs : List ℕ) where
+  -- the visit at hand, and those after it
+  stops-cons : (n i : ℕ) → i < n → stops-in ns ts cs (n - i) i ≡ stop-at ns ts cs i ∷ stops-in ns ts cs (n - (i + 1)) (i + 1)
+  unfolding stops-in
+  stops-cons n i l =
+      let one : n - i ≡ suc (n - (i + 1)) = omega arith in
+      ap (λ (m : ℕ). stops-in ns ts cs m i) one
+      ∙ ap (λ (j : ℕ). stop-at ns ts cs i ∷ stops-in ns ts cs (n - (i + 1)) j) (sym (add-one i))
+
+  -- none after the last
+  stops-none : (n i : ℕ) → n ≤ i → stops-in ns ts cs (n - i) i ≡ []
+  unfolding stops-in
+  stops-none n i l = let none : n - i ≡ 0 = omega arith in ap (λ (m : ℕ). stops-in ns ts cs m i) none
+
+  -- the visit at hand is counted
+  pub later-yes : (v : Stop) (k n i : ℕ) → i < n → counted v k (stop-at ns ts cs i) ≡ true
+      → later-carts v k (stops-in ns ts cs (n - i) i) ≡ suc (later-carts v (getD ns i 0) (stops-in ns ts cs (n - (i + 1)) (i + 1)))
+  unfolding later-carts stop-at
+  later-yes v k n i l e =
+      let rest : List Stop = stops-in ns ts cs (n - (i + 1)) (i + 1) in
+      ap (later-carts v k) (stops-cons n i l)
+      ∙ ap (λ (b : Bool). cond b (suc (later-carts v (getD ns i 0) rest)) (later-carts v k rest)) e
+
+  -- it is not
+  pub later-no : (v : Stop) (k n i : ℕ) → i < n → counted v k (stop-at ns ts cs i) ≡ false
+      → later-carts v k (stops-in ns ts cs (n - i) i) ≡ later-carts v k (stops-in ns ts cs (n - (i + 1)) (i + 1))
+  unfolding later-carts stop-at
+  later-no v k n i l e =
+      let rest : List Stop = stops-in ns ts cs (n - (i + 1)) (i + 1) in
+      ap (later-carts v k) (stops-cons n i l)
+      ∙ ap (λ (b : Bool). cond b (suc (later-carts v (getD ns i 0) rest)) (later-carts v k rest)) e
+
+  pub later-none : (v : Stop) (k n i : ℕ) → n ≤ i → later-carts v k (stops-in ns ts cs (n - i) i) ≡ 0
+  unfolding later-carts
+  later-none v k n i l = ap (later-carts v k) (stops-none n i l)
+
+  -- no more than there are
+  later-most : (v : Stop) (k n i : ℕ) → later-carts v k (stops-in ns ts cs n i) ≤ n
+  unfolding later-carts stops-in
+  later-most v k zero i = omega arith
+  later-most v k (suc n) i = by (counted v k (stop-at ns ts cs i)) (later-most v (stop-at ns ts cs i .cart) n (suc i)) (later-most v k n (suc i))
+    where
+      by : (b : Bool) → later-carts v (stop-at ns ts cs i .cart) (stops-in ns ts cs n (suc i)) ≤ n → later-carts v k (stops-in ns ts cs n (suc i)) ≤ n
+          → cond b (suc (later-carts v (stop-at ns ts cs i .cart) (stops-in ns ts cs n (suc i)))) (later-carts v k (stops-in ns ts cs n (suc i))) ≤ suc n
+      by true h g = omega arith
+      by false h g = omega arith
+
+  -- order bounds: a visit with one of the same cart behind it
+  pub orders-more : (all : List Stop) (n i : ℕ) → i + 1 < n → getD ns i 0 ≡ getD ns (i + 1) 0
+      → orders-from all (stops-in ns ts cs (n - i) i) ≡ later-carts (stop-at ns ts cs i) 0 all + orders-from all (stops-in ns ts cs (n - (i + 1)) (i + 1))
+  unfolding orders-from goes-on stop-at
+  orders-more all n i l e =
+      let rest : List Stop = stops-in ns ts cs (n - (i + 1)) (i + 1) in
+      ap (orders-from all) (stops-cons n i (omega arith))
+      ∙ ap (λ (b : Bool). cond b (later-carts (stop-at ns ts cs i) 0 all) 0 + orders-from all rest)
+          (ap (goes-on (stop-at ns ts cs i)) (stops-cons n (i + 1) l) ∙ eq-eqb (getD ns i 0) (getD ns (i + 1) 0) e)
+
+  -- one with a visit of another cart behind it
+  pub orders-same : (all : List Stop) (n i : ℕ) → i + 1 < n → (getD ns i 0 ≡ getD ns (i + 1) 0 → ⊥)
+      → orders-from all (stops-in ns ts cs (n - i) i) ≡ orders-from all (stops-in ns ts cs (n - (i + 1)) (i + 1))
+  unfolding orders-from goes-on stop-at
+  orders-same all n i l e =
+      let rest : List Stop = stops-in ns ts cs (n - (i + 1)) (i + 1) in
+      ap (orders-from all) (stops-cons n i (omega arith))
+      ∙ ap (λ (b : Bool). cond b (later-carts (stop-at ns ts cs i) 0 all) 0 + orders-from all rest)
+          (ap (goes-on (stop-at ns ts cs i)) (stops-cons n (i + 1) l) ∙ ne-eqb (getD ns i 0) (getD ns (i + 1) 0) e)
+      ∙ omega arith
+
+  -- the last visit of all has none
+  pub orders-none : (all : List Stop) (n i : ℕ) → n ≤ i + 1 → orders-from all (stops-in ns ts cs (n - i) i) ≡ 0
+  unfolding orders-from goes-on stops-in
+  orders-none all n i l = by (n - i) (omega arith)
+    where
+      by : (m : ℕ) → m ≤ 1 → orders-from all (stops-in ns ts cs m i) ≡ 0
+      by zero h = refl
+      by (suc zero) h = refl
+      by (suc (suc m)) h = absurd (omega arith)
