@@ -258,7 +258,7 @@ module _ (ns ts cs : List ℕ) where
   later-none v k n i l = ap (later-carts v k) (stops-none n i l)
 
   -- no more than there are
-  later-most : (v : Stop) (k n i : ℕ) → later-carts v k (stops-in ns ts cs n i) ≤ n
+  pub later-most : (v : Stop) (k n i : ℕ) → later-carts v k (stops-in ns ts cs n i) ≤ n
   unfolding later-carts stops-in
   later-most v k zero i = omega arith
   later-most v k (suc n) i = by (counted v k (stop-at ns ts cs i)) (later-most v (stop-at ns ts cs i .cart) n (suc i)) (later-most v k n (suc i))

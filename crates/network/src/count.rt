@@ -143,6 +143,7 @@ fn orders_among(numbers: &[u32], times: &[u32], places: &[u32], n: usize) -> usi
     requires { ⌜ n ≤ 1408 ⌝ }
     requires { ⌜ (length (now numbers) ≡ 1408) × (length (now times) ≡ 1408) × (length (now places) ≡ 1408) ⌝ }
     ensures { λ r. ⌜ r ≡ orders-among (stops-in (now (numbers .entry)) (now (times .entry)) (now (places .entry)) n 0) ⌝ }
+    ensures { λ r. ⌜ r ≤ 2000000 ⌝ }
 {
     let mut sum: usize = 0;
     let mut v: usize = 0;
