@@ -276,7 +276,7 @@ module _ (ns ts cs : List ℕ) where
       let rest : List Stop = stops-in ns ts cs (n - (i + 1)) (i + 1) in
       ap (orders-from all) (stops-cons n i (omega arith))
       ∙ ap (λ (b : Bool). cond b (later-carts (stop-at ns ts cs i) 0 all) 0 + orders-from all rest)
-          (ap (goes-on (stop-at ns ts cs i)) (stops-cons n (i + 1) l) ∙ eq-eqb (getD ns i 0) (getD ns (i + 1) 0) e)
+      (ap (goes-on (stop-at ns ts cs i)) (stops-cons n (i + 1) l) ∙ eq-eqb (getD ns i 0) (getD ns (i + 1) 0) e)
 
   -- one with a visit of another cart behind it
   pub orders-same : (all : List Stop) (n i : ℕ) → i + 1 < n → (getD ns i 0 ≡ getD ns (i + 1) 0 → ⊥)
@@ -286,7 +286,7 @@ module _ (ns ts cs : List ℕ) where
       let rest : List Stop = stops-in ns ts cs (n - (i + 1)) (i + 1) in
       ap (orders-from all) (stops-cons n i (omega arith))
       ∙ ap (λ (b : Bool). cond b (later-carts (stop-at ns ts cs i) 0 all) 0 + orders-from all rest)
-          (ap (goes-on (stop-at ns ts cs i)) (stops-cons n (i + 1) l) ∙ ne-eqb (getD ns i 0) (getD ns (i + 1) 0) e)
+      (ap (goes-on (stop-at ns ts cs i)) (stops-cons n (i + 1) l) ∙ ne-eqb (getD ns i 0) (getD ns (i + 1) 0) e)
       ∙ omega arith
 
   -- the last visit of all has none

@@ -35,6 +35,7 @@ pub(crate) fn all_moves(cells: &[u32], carts: usize, steps: usize) -> usize
     requires { ⌜ steps ≤ 1024 ⌝ }
     requires { ⌜ carts * steps ≤ length (now cells) ⌝ }
     ensures { λ r. ⌜ r ≡ total moves (paths-in carts steps (now (cells .entry))) ⌝ }
+    ensures { λ r. ⌜ r ≤ 65536 ⌝ }
 {
     let mut n: usize = 0;
     let mut i: usize = 0;
@@ -48,7 +49,16 @@ pub(crate) fn all_moves(cells: &[u32], carts: usize, steps: usize) -> usize
 }
 
 // Puts the visits of the path at place `at`, a path of cart number j, behind the first n visits of a row.
-fn put_visits(cells: &[u32], at: usize, steps: usize, j: u32, n: usize, numbers: &mut [u32], times: &mut [u32], places: &mut [u32]) -> usize
+fn put_visits(
+    cells: &[u32],
+    at: usize,
+    steps: usize,
+    j: u32,
+    n: usize,
+    numbers: &mut [u32],
+    times: &mut [u32],
+    places: &mut [u32],
+) -> usize
     requires { ⌜ (1 ≤ steps) × (steps ≤ 1024) × (at + steps ≤ length (now cells)) ⌝ }
     requires { ⌜ n + moves (take steps (drop at (now cells))) < 1408 ⌝ }
     requires { ⌜ (length (now numbers) ≡ 1408) × (length (now times) ≡ 1408) × (length (now places) ≡ 1408) ⌝ }
@@ -78,7 +88,14 @@ fn put_visits(cells: &[u32], at: usize, steps: usize, j: u32, n: usize, numbers:
 }
 
 // Puts the visits of all paths in a row; returns how many there are.
-fn put_all(cells: &[u32], carts: usize, steps: usize, numbers: &mut [u32], times: &mut [u32], places: &mut [u32]) -> usize
+fn put_all(
+    cells: &[u32],
+    carts: usize,
+    steps: usize,
+    numbers: &mut [u32],
+    times: &mut [u32],
+    places: &mut [u32],
+) -> usize
     requires { ⌜ (carts ≤ 64) × (1 ≤ steps) × (steps ≤ 1024) × (carts * steps ≤ length (now cells)) ⌝ }
     requires { ⌜ carts + total moves (paths-in carts steps (now cells)) ≤ 1408 ⌝ }
     requires { ⌜ (length (now numbers) ≡ 1408) × (length (now times) ≡ 1408) × (length (now places) ≡ 1408) ⌝ }

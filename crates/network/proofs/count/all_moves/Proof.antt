@@ -25,8 +25,7 @@ abbrev μ-loop : tie.MeasureT-loop
 loop-holds : tie.Need-loop-holds Inv-loop μ-loop
 loop-holds c =
     let a = c .before .args in
-    let all : a .carts - 0 ≡ a .carts = omega arith in
-    (
+    let all : a .carts - 0 ≡ a .carts = omega arith in (
       omega arith,
       omega arith,
       ap (λ (k : ℕ). 0 + k * a .steps) all ∙ omega arith,
@@ -62,8 +61,7 @@ loop-again c =
     let l = c .before .before in
     let a = l .before .before .args in
     let e : c .moves-of .result ≡ moves (take (a .steps) (drop (l .loop .at) (a .cells .now))) = c .moves-of .ensures in
-    let t : l .loop .i < a .carts = c .before .loop-test .taken in
-    (
+    let t : l .loop .i < a .carts = c .before .loop-test .taken in (
       omega arith,
       omega (arith, path-moves-most (a .steps) (drop (l .loop .at) (a .cells .now))),
       omega (arith, rows-left (a .carts) (l .loop .i) (a .steps) t),
@@ -74,7 +72,7 @@ returns : tie.Need-returns Inv-loop μ-loop
 returns c =
     let l = c .before in
     let a = l .before .before .args in
-    omega (arith, all-moves-none (a .carts) (l .loop .i) (a .steps) (drop (l .loop .at) (a .cells .now)) (c .loop-test .left))
+    (omega (arith, all-moves-none (a .carts) (l .loop .i) (a .steps) (drop (l .loop .at) (a .cells .now)) (c .loop-test .left)), omega arith)
 
 pub all-moves-spec : {M : Type 1} → statement M
 all-moves-spec =

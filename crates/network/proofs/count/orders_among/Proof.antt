@@ -76,8 +76,7 @@ loop-again c =
     let t : l .loop .v + 1 < a .n = q .loop-test .taken in
     let most : later-carts v 0 all ≤ a .n = later-most (a .numbers .now) (a .times .now) (a .places .now) v 0 (a .n) 0 in
     ⊎-elim
-    (λ w. let e : w .1 .result ≡ later-carts v 0 all = w .1 .ensures in
-    (
+    (λ w. let e : w .1 .result ≡ later-carts v 0 all = w .1 .ensures in (
       omega arith,
       omega arith,
       omega (arith, orders-more (a .numbers .now) (a .times .now) (a .places .now) all (a .n) (l .loop .v) t (w .0 .taken)),
@@ -93,8 +92,7 @@ returns : tie.Need-returns Inv-loop μ-loop
 returns c =
     let l = c .before in
     let a = l .before .before .before .before .args in
-    let all : List Stop = stops-in (a .numbers .now) (a .times .now) (a .places .now) (a .n) 0 in
-    (
+    let all : List Stop = stops-in (a .numbers .now) (a .times .now) (a .places .now) (a .n) 0 in (
       omega (arith, orders-none (a .numbers .now) (a .times .now) (a .places .now) all (a .n) (l .loop .v) (c .loop-test .left)),
       omega arith,
     )

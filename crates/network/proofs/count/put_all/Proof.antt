@@ -32,8 +32,7 @@ loop-holds c =
     let z = c .before .before .before .before in
     let a = z .args in
     let all : a .carts - 0 ≡ a .carts = omega arith in
-    let first : paths-in (a .carts - 0) (a .steps) (drop 0 (a .cells .now)) ≡ paths-in (a .carts) (a .steps) (a .cells .now) = from-first (a .carts) (a .steps) (a .cells .now) in
-    (
+    let first : paths-in (a .carts - 0) (a .steps) (drop 0 (a .cells .now)) ≡ paths-in (a .carts) (a .steps) (a .cells .now) = from-first (a .carts) (a .steps) (a .cells .now) in (
       omega arith,
       ap (λ (k : ℕ). 0 + k * a .steps) all ∙ omega arith,
       z .pre .1 .1 .0,
@@ -56,8 +55,7 @@ put-visits-requires c κs =
     let a = z .args in
     let t : l .loop .i < a .carts = c .before .before .before .loop-test .taken in
     let e : l .loop .n + (a .carts - l .loop .i) + total moves (paths-in (a .carts - l .loop .i) (a .steps) (drop (l .loop .at) (a .cells .now))) ≡ a .carts + total moves (paths-in (a .carts) (a .steps) (a .cells .now)) = l .loop .inv .5 in
-    let p : a .carts + total moves (paths-in (a .carts) (a .steps) (a .cells .now)) ≤ 1408 = z .pre .1 .0 in
-    (
+    let p : a .carts + total moves (paths-in (a .carts) (a .steps) (a .cells .now)) ≤ 1408 = z .pre .1 .0 in (
       (omega arith, omega arith, omega (arith, rows-left (a .carts) (l .loop .i) (a .steps) t)),
       (omega (arith, all-moves-cons (a .carts) (l .loop .i) (a .steps) (l .loop .at) (a .cells .now) t), (l .loop .inv .2, l .loop .inv .3, l .loop .inv .4)),
     )
@@ -82,8 +80,7 @@ loop-again c =
     let e : p .put-visits .result ≡ l .loop .n + moves (take (a .steps) (drop (l .loop .at) (a .cells .now))) + 1 = p .put-visits .ensures .0 in
     let before : List Stop = stops-in (l .loop .numbers) (l .loop .times) (l .loop .places) (l .loop .n) 0 in
     let put : List Stop = map (stop (l .loop .i + 1)) (visits-of (take (a .steps) (drop (l .loop .at) (a .cells .now)))) in
-    let rest : List Stop = stops (l .loop .i + 1 + 1) (paths-in (a .carts - (l .loop .i + 1)) (a .steps) (drop (l .loop .at + a .steps) (a .cells .now))) in
-    (
+    let rest : List Stop = stops (l .loop .i + 1 + 1) (paths-in (a .carts - (l .loop .i + 1)) (a .steps) (drop (l .loop .at + a .steps) (a .cells .now))) in (
       omega arith,
       omega (arith, rows-left (a .carts) (l .loop .i) (a .steps) t),
       p .put-visits .kept .1 .1 .1 .1 .1 .0 ∙ l .loop .inv .2,
@@ -91,9 +88,9 @@ loop-again c =
       p .put-visits .kept .1 .1 .1 .1 .1 .1 .1 .0 ∙ l .loop .inv .4,
       omega (arith, all-moves-cons (a .carts) (l .loop .i) (a .steps) (l .loop .at) (a .cells .now) t),
       ap (λ (r : List Stop). r ++ rest) (p .put-visits .ensures .1)
-      ∙ append-assoc before put rest
-      ∙ ap (λ (r : List Stop). before ++ r) (sym (stops-path (a .carts) (l .loop .i) (a .steps) (l .loop .at) (a .cells .now) t))
-      ∙ l .loop .inv .6,
+          ∙ append-assoc before put rest
+          ∙ ap (λ (r : List Stop). before ++ r) (sym (stops-path (a .carts) (l .loop .i) (a .steps) (l .loop .at) (a .cells .now) t))
+          ∙ l .loop .inv .6,
     )
 
 same-length : tie.Need-same-length Inv-loop μ-loop
@@ -109,12 +106,11 @@ returns : tie.Need-returns Inv-loop μ-loop
 returns c =
     let l = c .before in
     let a = l .before .before .before .before .before .args in
-    let all : List Stop = stops-in (l .loop .numbers) (l .loop .times) (l .loop .places) (l .loop .n) 0 in
-    (
+    let all : List Stop = stops-in (l .loop .numbers) (l .loop .times) (l .loop .places) (l .loop .n) 0 in (
       omega (arith, all-moves-none (a .carts) (l .loop .i) (a .steps) (drop (l .loop .at) (a .cells .now)) (c .loop-test .left)),
       sym (append-nil all)
-      ∙ ap (λ (r : List Stop). all ++ r) (sym (stops-done (a .carts) (l .loop .i) (a .steps) (l .loop .i + 1) (drop (l .loop .at) (a .cells .now)) (c .loop-test .left)))
-      ∙ l .loop .inv .6,
+          ∙ ap (λ (r : List Stop). all ++ r) (sym (stops-done (a .carts) (l .loop .i) (a .steps) (l .loop .i + 1) (drop (l .loop .at) (a .cells .now)) (c .loop-test .left)))
+          ∙ l .loop .inv .6,
     )
 
 pub put-all-spec : {M : Type 1} → statement M

@@ -55,8 +55,7 @@ add-m c = search needs
 loop-holds : tie.Need-loop-holds Inv-loop μ-loop
 loop-holds c =
     let a = c .before .args in
-    let h : a .at + a .steps ≤ length (a .cells .now) = omega arith in
-    (
+    let h : a .at + a .steps ≤ length (a .cells .now) = omega arith in (
       omega arith,
       omega arith,
       length-set (a .numbers .now) (a .n) (a .j) ∙ c .before .pre .1 .1 .0,
@@ -124,8 +123,7 @@ loop-again c =
     let d : ℕ = getD (a .cells .now) (a .at + l .loop .s) 0 in
     let vs : List Visit = visits-after d (l .loop .s + 1) (steps-from (a .cells .now) (a .at) (a .steps) (l .loop .s + 1)) in
     ⊎-elim
-    (λ w. let r : l .loop .m < 1408 = room (record { before = c .before; if1 = w .0 }) in
-    (
+    (λ w. let r : l .loop .m < 1408 = room (record { before = c .before; if1 = w .0 }) in (
       omega arith,
       omega arith,
       ap (λ (x : List ℕ). length x) (w .1) ∙ length-set (l .loop .numbers) (l .loop .m) (a .j) ∙ l .loop .inv .2,
@@ -134,9 +132,9 @@ loop-again c =
       omega (arith, moves-move (a .cells .now) (a .at) (a .steps) h (l .loop .c) (l .loop .s) t (w .0 .taken)),
       put-next (l .loop .numbers) (l .loop .times) (l .loop .places) (l .loop .m) (omega arith) (omega arith) (omega arith) (a .j) (l .loop .s) d vs
           (c .if1 .numbers) (c .if1 .times) (c .if1 .places) (c .if1 .m) (w .1) (w .2) (w .3) (w .4)
-      ∙ ap (λ (v : List Visit). stops-in (l .loop .numbers) (l .loop .times) (l .loop .places) (l .loop .m) 0 ++ map (stop (a .j)) v)
+          ∙ ap (λ (v : List Visit). stops-in (l .loop .numbers) (l .loop .times) (l .loop .places) (l .loop .m) 0 ++ map (stop (a .j)) v)
           (sym (visits-move (a .cells .now) (a .at) (a .steps) h (l .loop .c) (l .loop .s) t (w .0 .taken)))
-      ∙ l .loop .inv .6,
+          ∙ l .loop .inv .6,
     ))
     (λ w. (
       omega arith,
@@ -147,9 +145,9 @@ loop-again c =
       omega (arith, moves-wait (a .cells .now) (a .at) (a .steps) h (l .loop .c) (l .loop .s) t (w .0 .left)),
       put-none (l .loop .numbers) (l .loop .times) (l .loop .places) (c .if1 .numbers) (c .if1 .times) (c .if1 .places) (l .loop .m) (c .if1 .m)
           (map (stop (a .j)) vs) (w .1) (w .2) (w .3) (w .4)
-      ∙ ap (λ (v : List Visit). stops-in (l .loop .numbers) (l .loop .times) (l .loop .places) (l .loop .m) 0 ++ map (stop (a .j)) v)
+          ∙ ap (λ (v : List Visit). stops-in (l .loop .numbers) (l .loop .times) (l .loop .places) (l .loop .m) 0 ++ map (stop (a .j)) v)
           (sym (visits-wait (a .cells .now) (a .at) (a .steps) h (l .loop .c) (l .loop .s) t (w .0 .left)))
-      ∙ l .loop .inv .6,
+          ∙ l .loop .inv .6,
     ))
     (c .if1 .came)
 
@@ -170,14 +168,13 @@ returns c =
     let d : ℕ = getD (a .cells .now) (a .at) 0 in
     let vs : List Visit = visits-after d 1 (steps-from (a .cells .now) (a .at) (a .steps) 1) in
     let r : a .n < 1408 = omega (arith, l .before .before .pre .1 .0) in
-    let all : List Stop = stops-in (l .loop .numbers) (l .loop .times) (l .loop .places) (l .loop .m) 0 in
-    (
+    let all : List Stop = stops-in (l .loop .numbers) (l .loop .times) (l .loop .places) (l .loop .m) 0 in (
       omega (arith, moves-none (a .cells .now) (a .at) (a .steps) h (l .loop .c) (l .loop .s) (c .loop-test .left)),
       sym (append-nil all)
-      ∙ ap (λ (v : List Visit). all ++ map (stop (a .j)) v) (sym (visits-none (a .cells .now) (a .at) (a .steps) h (l .loop .c) (l .loop .s) (c .loop-test .left)))
-      ∙ l .loop .inv .6
-      ∙ put-one (a .numbers .now) (a .times .now) (a .places .now) (a .n) (omega arith) (omega arith) (omega arith) (a .j) 0 d vs
-      ∙ ap (λ (v : List Visit). stops-in (a .numbers .now) (a .times .now) (a .places .now) (a .n) 0 ++ map (stop (a .j)) v)
+          ∙ ap (λ (v : List Visit). all ++ map (stop (a .j)) v) (sym (visits-none (a .cells .now) (a .at) (a .steps) h (l .loop .c) (l .loop .s) (c .loop-test .left)))
+          ∙ l .loop .inv .6
+          ∙ put-one (a .numbers .now) (a .times .now) (a .places .now) (a .n) (omega arith) (omega arith) (omega arith) (a .j) 0 d vs
+          ∙ ap (λ (v : List Visit). stops-in (a .numbers .now) (a .times .now) (a .places .now) (a .n) 0 ++ map (stop (a .j)) v)
           (sym (visits-first (a .cells .now) (a .at) (a .steps) h (omega arith))),
     )
 
