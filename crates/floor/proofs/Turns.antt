@@ -109,7 +109,7 @@ padded-more n l vs h =
     ∙ ap (λ (x : List ℕ). l ++ vs ++ x) back
 
 -- the numbers of one more
-flat-more : {A : Type 0} (numbers : A → List ℕ) (as′ : List A) (a : A) → flatMap numbers (as′ ++ (a ∷ [])) ≡ flatMap numbers as′ ++ numbers a
+pub flat-more : {A : Type 0} (numbers : A → List ℕ) (as′ : List A) (a : A) → flatMap numbers (as′ ++ (a ∷ [])) ≡ flatMap numbers as′ ++ numbers a
 unfolding flatMap
 flat-more numbers [] a = append-nil (numbers a)
 flat-more numbers (x ∷ xs) a = ap (λ (l : List ℕ). numbers x ++ l) (flat-more numbers xs a) ∙ sym (append-assoc (numbers x) (flatMap numbers xs) (numbers a))
@@ -132,7 +132,7 @@ pub record Turn {A : Type 0} (judge : List A → List ℕ → Judged A) (numbers
 
 module _ {A : Type 0} (judge : List A → List ℕ → Judged A) (numbers : A → List ℕ) where
   -- before the first
-  pub first-turn : (t s : List ℕ) (at : ℕ) → s ≡ replicate (length s) 0
+  unfoldable pub first-turn : (t s : List ℕ) (at : ℕ) → s ≡ replicate (length s) 0
       → Turn judge numbers (records-in-order judge [] (records (drop at t))) t (length s) s at 0
   unfolding flatMap
   first-turn t s at z = record { before = []; count = refl; held = z ∙ sym (padded-none (length s)); rest = refl }
@@ -141,17 +141,27 @@ module _ {A : Type 0} (judge : List A → List ℕ → Judged A) (numbers : A �
   abbrev pub Ends : Judged (List A) → ℕ → Count → List ℕ → Type 0
   Ends whole size r s = (r ≡ counted whole) × ((as′ : List A) → whole ≡ accepted as′ → s ≡ padded size (flatMap numbers as′))
 
-  -- after the last
+  -- those that the whole accepts stand in the array
+  pub stands : (whole : Judged (List A)) (size : ℕ) (s : List ℕ) (before : List A) → whole ≡ accepted before → s ≡ padded size (flatMap numbers before)
+      → (as′ : List A) → whole ≡ accepted as′ → s ≡ padded size (flatMap numbers as′)
+  stands whole size s before e held as′ f = held ∙ ap (λ (x : List A). padded size (flatMap numbers x)) (accepted-same _ _ (sym e ∙ f))
+
+  -- after the last, those before are all
+  pub all-taken : (whole : Judged (List A)) (t : List ℕ) (size : ℕ) (s : List ℕ) (at n : ℕ) (u : Turn judge numbers whole t size s at n) → length t ≤ at
+      → whole ≡ accepted (u .before)
+  unfolding records-in-order
+  all-taken whole t size s at n u h =
+      u .rest ∙ ap (λ (x : List ℕ). records-in-order judge (u .before) (records x)) (drop-of-length-le t h) ∙ ap (records-in-order judge (u .before)) records-none
+
   pub last-turn : (whole : Judged (List A)) (t : List ℕ) (size : ℕ) (s : List ℕ) (at n : ℕ) → Turn judge numbers whole t size s at n → length t ≤ at
       → Ends whole size (Count.Read n) s
-  unfolding records-in-order counted
+  unfolding counted
   last-turn whole t size s at n u h =
-      let e : whole ≡ accepted (u .before) =
-      u .rest ∙ ap (λ (x : List ℕ). records-in-order judge (u .before) (records x)) (drop-of-length-le t h) ∙ ap (records-in-order judge (u .before)) records-none in
-      (ap Count.Read (sym (u .count)) ∙ sym (ap counted e), λ as′ f. u .held ∙ ap (λ (x : List A). padded size (flatMap numbers x)) (accepted-same _ _ (sym e ∙ f)))
+      let e : whole ≡ accepted (u .before) = all-taken whole t size s at n u h in
+      (ap Count.Read (sym (u .count)) ∙ sym (ap counted e), stands whole size s (u .before) e (u .held))
 
   -- the record whose turn it is, and the rest
-  turn-is : (before : List A) (t : List ℕ) (at : ℕ) → at < length t
+  pub turn-is : (before : List A) (t : List ℕ) (at : ℕ) → at < length t
       → records-in-order judge before (records (drop at t))
       ≡ (judge before (first-record (drop at t)) >>= λ a. records-in-order judge (before ++ (a ∷ [])) (records (drop (at + length (first-record (drop at t)) + 2) t)))
   unfolding records-in-order
@@ -163,15 +173,22 @@ module _ {A : Type 0} (judge : List A → List ℕ → Judged A) (numbers : A �
       (drop-drop (k + 2) at t ∙ ap (λ (i : ℕ). drop i t) {x = at + (k + 2)} {y = at + k + 2} (omega arith))
 
   -- a record that is refused ends it
+  pub whole-refused : (whole : Judged (List A)) (t : List ℕ) (size : ℕ) (s : List ℕ) (at n : ℕ) (u : Turn judge numbers whole t size s at n) → at < length t
+      → (r : Refusal) → judge (u .before) (first-record (drop at t)) ≡ refused r → whole ≡ refused r
+  unfolding _>>=_
+  whole-refused whole t size s at n u h r j =
+      u .rest ∙ turn-is (u .before) t at h
+      ∙ ap (λ (x : Judged A). x >>= λ a. records-in-order judge (u .before ++ (a ∷ [])) (records (drop (at + length (first-record (drop at t)) + 2) t))) j
+
   pub refused-turn : (whole : Judged (List A)) (t : List ℕ) (size : ℕ) (s s′ : List ℕ) (at n : ℕ) (u : Turn judge numbers whole t size s at n) → at < length t
       → (r : Refusal) → judge (u .before) (first-record (drop at t)) ≡ refused r → Ends whole size (Count.Refused r) s′
-  unfolding _>>=_ counted
+  unfolding counted
   refused-turn whole t size s s′ at n u h r j =
-      let e : whole ≡ refused r = u .rest ∙ turn-is (u .before) t at h ∙ ap (λ (x : Judged A). x >>= λ a. records-in-order judge (u .before ++ (a ∷ [])) (records (drop (at + length (first-record (drop at t)) + 2) t))) j in
+      let e : whole ≡ refused r = whole-refused whole t size s at n u h r j in
       (sym (ap counted e), λ as′ f. absurd (refused-not-accepted r as′ (sym e ∙ f)))
 
   -- one that is taken goes before the next
-  pub taken-turn : (whole : Judged (List A)) (t : List ℕ) (size : ℕ) (s s′ : List ℕ) (at n : ℕ) (u : Turn judge numbers whole t size s at n) → at < length t
+  unfoldable pub taken-turn : (whole : Judged (List A)) (t : List ℕ) (size : ℕ) (s s′ : List ℕ) (at n : ℕ) (u : Turn judge numbers whole t size s at n) → at < length t
       → (a : A) → judge (u .before) (first-record (drop at t)) ≡ accepted a
       → length (flatMap numbers (u .before)) + length (numbers a) ≤ size
       → s′ ≡ sets s (length (flatMap numbers (u .before))) (numbers a)
