@@ -6,7 +6,7 @@ use mathlib.Core.Path.{_≡_, refl, ap, sym, _∙_, subst}
 use mathlib.Core.Logic.{_⊎_, inl, inr}
 use mathlib.Core.Bool.{Bool, true, false, _&&_}
 use mathlib.Core.List.{List, [], _∷_, _++_, map, append-nil, append-assoc}
-use mathlib.Core.Option.{Option, none, some}
+use mathlib.Core.Option.{none, some}
 use lib.Dec.{leb, eqb}
 use lib.ListN.{length, take, drop, length-drop}
 use lib.Seq.{sets, sets-eq, take-all, drop-length, drop-drop, length-take-le}
@@ -23,7 +23,7 @@ use Rattle.floor.specs.declared.Reason.the-variants.{Layout, Range, Limi
 use Rattle.floor.specs.declared.Table.the-variants.{Paths}
 use Rattle.floor.specs.declared.Refusal.{Refusal}
 use Rattle.floor.specs.declared.PathTaken.{PathTaken}
-use Rattle.floor.specs.Refusal.{Judged, refused, accepted, _>>=_, _>>_, need, given, next}
+use Rattle.floor.specs.Refusal.{Judged, refused, accepted, _>>_, need, next}
 use Rattle.floor.specs.Roads.{cell-range}
 use Rattle.floor.specs.Paths.{cells-range, same-width, path}
 use Rattle.floor.specs.Arrays.{paths-in}

@@ -1,16 +1,16 @@
 -- The paths read one after the other: what holds before each turn of the loop, what each way out of a turn gives, and what its caller knows of the answer.
 -- Assumes nothing.
-use Prim.Native.Nat.{ℕ, zero, suc, _+_, _*_, _-_, _≤_, _<_}
+use Prim.Native.Nat.{ℕ, suc, _+_, _*_, _-_, _≤_, _<_}
 use native.Mathlib.Nat.{zero-mul, suc-mul, le-mul-of-pos-right}
 use native.Mathlib.Numerals.{add-one}
 use native.Mathlib.Omega.{arith}
 use mathlib.Core.Path.{_≡_, refl, ap, sym, _∙_, subst}
-use mathlib.Core.Bool.{Bool, true, false}
-use mathlib.Core.List.{List, [], _∷_, _++_, flatMap, append-assoc, List·Memᴰ, List·Memᴰ·head, List·Memᴰ·tail}
+use mathlib.Core.List.{List, [], _∷_, _++_, flatMap, append-assoc, List·Memᴰ·head, List·Memᴰ·tail}
 use mathlib.Core.Option.{Option, none, some, Option·none-ne-some, Option·some-ne-none, Option·some-injective}
-use lib.Dec.{eqb}
+use lib.Dec.{leb, eqb}
 use lib.ListN.{length, take, drop, replicate, length-append}
 use lib.Seq.{sets, take-at, drop-at}
+use borrow.Author.Tests.{lt-leb, le-leb, eq-eqb, ne-eqb}
 use Rattle.words.specs.Words.{padded}
 use Rattle.csv.specs.Records.{records, first-record}
 use Rattle.csv.proofs.Reading.{rest-is}
@@ -20,12 +20,12 @@ use Rattle.floor.specs.declared.Table.the-variants.{Paths}
 use Rattle.floor.specs.declared.Refusal.{Refusal}
 use Rattle.floor.specs.declared.PathTaken.{PathTaken}
 use Rattle.floor.specs.declared.PathsRead.{PathsRead}
-use Rattle.floor.specs.Refusal.{Judged, refused, accepted, within-bytes, need, next, records-in-order}
+use Rattle.floor.specs.Refusal.{Judged, refused, accepted, _>>=_, _>>_, within-bytes, need, next, records-in-order}
 use Rattle.floor.specs.Paths.{path, read-paths, steps}
 use Rattle.floor.specs.Arrays.{path-cells, paths-in}
 use Rattle.floor.specs.Reading.{path-taken, paths-read}
-use Rattle.floor.proofs.Judging.{refused-not-accepted, accepted-same}
-use Rattle.floor.proofs.Accepted.{Each, Wide, Even, even-none, even-more, path-sound, steps-more, in-order-even, read-paths-sound}
+use Rattle.floor.proofs.Judging.{refused-not-accepted, pass, stop, goes-on, ends}
+use Rattle.floor.proofs.Accepted.{Each, Even, even-none, even-more, path-sound, steps-more, in-order-even, read-paths-sound}
 use Rattle.floor.proofs.Turns.{Says, Turn, first-turn, taken-turn, flat-more, stands, all-taken, whole-refused}
 use Rattle.floor.proofs.PathRecords.{path-says}
 
@@ -181,3 +181,80 @@ module _ (whole : Judged (List (List ℕ))) (t : List ℕ) (size : ℕ) (s : Lis
           even = more;
           width = count ∙ sym (steps-more before cs same);
         })
+
+-- ---- the table
+
+-- how many paths an answer says, and of how many steps
+read-said : PathsRead → Option (ℕ × ℕ)
+read-said (PathsRead.Read n w) = some (n, w)
+read-said (PathsRead.Refused r) = none
+
+-- the refusal that it says
+refusal-said : Refusal → PathsRead → Refusal
+refusal-said d (PathsRead.Read n w) = d
+refusal-said d (PathsRead.Refused r) = r
+
+-- paths with this answer are so many, of so many steps
+pub paths-answered : (j : Judged (List (List ℕ))) (n w : ℕ) → PathsRead.Read n w ≡ paths-read j
+    → (ps : List (List ℕ)) × (j ≡ accepted ps) × (n ≡ length ps) × (w ≡ steps ps)
+unfolding paths-read read-said
+paths-answered (refused r) n w e = absurd (Option·some-ne-none _ (ap read-said e))
+paths-answered (accepted ps) n w e =
+    let q = Option·some-injective _ _ (ap read-said e) in
+    (ps, refl, ap (λ (x : ℕ × ℕ). x .0) q, ap (λ (x : ℕ × ℕ). x .1) q)
+
+-- and with the other they are refused
+pub paths-refused : (j : Judged (List (List ℕ))) (r : Refusal) → PathsRead.Refused r ≡ paths-read j → j ≡ refused r
+unfolding paths-read read-said refusal-said
+paths-refused (refused q) r e = ap refused (ap (refusal-said q) (sym e))
+paths-refused (accepted ps) r e = absurd (Option·none-ne-some _ (ap read-said e))
+
+module _ (carts : ℕ) (b : List ℕ) (size : ℕ) (s : List ℕ) where
+  -- too many bytes
+  pub table-long : 65536 < length b → PathsEnd (read-paths carts b) size (PathsRead.Refused (record { reason = Limit; table = Paths; row = 0 })) s
+  unfolding read-paths within-bytes
+  table-long h = refused-ends (read-paths carts b) size s _ (stop (leb (length b) 65536) Limit Paths 0 _ (lt-leb _ _ h))
+
+  module _ (few : length b ≤ 65536) where
+    -- the records, and then their count
+    table-is : read-paths carts b ≡ (records-in-order path [] (records b) >>= λ ps. need (eqb (length ps) carts) PathCount Paths 0 >> accepted ps)
+    unfolding read-paths within-bytes
+    table-is = pass (leb (length b) 65536) Limit Paths 0 _ (le-leb _ _ few)
+
+    counted-is : (ps : List (List ℕ)) → records-in-order path [] (records b) ≡ accepted ps
+        → read-paths carts b ≡ (need (eqb (length ps) carts) PathCount Paths 0 >> accepted ps)
+    counted-is ps e = table-is ∙ goes-on (records-in-order path [] (records b)) _ ps e
+
+    -- the records end with this answer
+    module _ (r : PathsRead) (end : PathsEnd (records-in-order path [] (records b)) size r s) where
+      -- a record is refused
+      pub table-refused : (q : Refusal) → r ≡ PathsRead.Refused q → PathsEnd (read-paths carts b) size r s
+      table-refused q e =
+          subst (λ (x : PathsRead). PathsEnd (read-paths carts b) size x s) (sym e)
+          (refused-ends (read-paths carts b) size s q (table-is ∙ ends (records-in-order path [] (records b)) _ q (paths-refused _ q (sym e ∙ end .0))))
+
+      module _ (n w : ℕ) (e : r ≡ PathsRead.Read n w) where
+        -- not as many as carts
+        pub table-other : (n ≡ carts → ⊥) → PathsEnd (read-paths carts b) size (PathsRead.Refused (record { reason = PathCount; table = Paths; row = 0 })) s
+        table-other h =
+            let (ps, all, count, _) = paths-answered _ n w (sym e ∙ end .0) in
+            refused-ends (read-paths carts b) size s _ (counted-is ps all ∙ stop (eqb (length ps) carts) PathCount Paths 0 _ (ne-eqb _ _ (λ q. h (count ∙ q))))
+
+        -- as many
+        pub table-all : n ≡ carts → PathsEnd (read-paths carts b) size (PathsRead.Read n w) s
+        table-all h =
+            let (ps, all, count, _) = paths-answered _ n w (sym e ∙ end .0) in
+            let is : read-paths carts b ≡ records-in-order path [] (records b) =
+            counted-is ps all ∙ pass (eqb (length ps) carts) PathCount Paths 0 _ (eq-eqb _ _ (sym count ∙ h)) ∙ sym all in
+            (sym e ∙ end .0 ∙ ap paths-read (sym is), λ qs f. end .1 qs (sym is ∙ f))
+
+-- ---- for a caller
+
+-- the paths of an array that holds those that were read are they
+pub paths-read-held : (size : ℕ) (rs ps : List (List ℕ)) → records-in-order path [] rs ≡ accepted ps
+    → paths-in (length ps) (steps ps) (padded size (path-cells ps)) ≡ ps
+paths-read-held size rs ps e = even-held size ps (in-order-even rs ps e)
+
+pub read-paths-held : (size carts : ℕ) (b : List ℕ) (ps : List (List ℕ)) → read-paths carts b ≡ accepted ps
+    → paths-in (length ps) (steps ps) (padded size (path-cells ps)) ≡ ps
+read-paths-held size carts b ps e = even-held size ps (read-paths-sound carts b ps e .0)
