@@ -169,19 +169,22 @@ numbers-length (f ∷ fs) ns e = by (number f) (numbers fs) (numbers-length fs) 
     by (some n) (some ms) h e = ap length (sym (Option·some-injective _ _ e)) ∙ ap suc (h ms refl)
 
 -- as many cells as there are steps, and at least one
-abbrev Wide : List (List ℕ) → List ℕ → Type 0
+abbrev pub Wide : List (List ℕ) → List ℕ → Type 0
 Wide all q = (length q ≡ steps all) × (1 ≤ length q)
 
--- a record that is taken for a path is as wide as the first before it
-path-sound : (before : List (List ℕ)) (r q : List ℕ) → path before r ≡ accepted q → T (same-width before (length q)) × (1 ≤ length q)
+-- a record that is taken for a path is as wide as the first before it, and within the limits
+pub path-sound : (before : List (List ℕ)) (r q : List ℕ) → path before r ≡ accepted q
+    → T (same-width before (length q)) × (1 ≤ length q) × (length q ≤ 1024) × (next before * length q ≤ 8192)
 unfolding path
 path-sound before r q e =
     let (cs, there, e1) = and-given-accepted (numbers (fields r)) Layout Paths _ _ q e in
     let (t, e2) = then-accepted (same-width before (length cs)) Layout Paths _ _ q e1 in
     let (_, e3) = then-accepted (cells-range cs) Range Paths _ _ q e2 in
-    let (_, e4) = then-accepted (leb (length cs) 1024 && leb (next before * length cs) 8192) Limit Paths _ _ q e3 in
+    let (l, e4) = then-accepted (leb (length cs) 1024 && leb (next before * length cs) 8192) Limit Paths _ _ q e3 in
+    let (few, room) = and-yes (leb (length cs) 1024) _ l in
     let some-cell : 1 ≤ length cs = omega (arith, numbers-length (fields r) cs there, some-field r) in
-    subst (λ (x : List ℕ). T (same-width before (length x)) × (1 ≤ length x)) (accepted-same cs q e4) (t, some-cell)
+    subst (λ (x : List ℕ). T (same-width before (length x)) × (1 ≤ length x) × (length x ≤ 1024) × (next before * length x ≤ 8192)) (accepted-same cs q e4)
+    (t, some-cell, leb→le _ _ few, leb→le _ _ room)
 
 -- one path more, as wide as those before
 wide-more : (before : List (List ℕ)) (q : List ℕ) → Each (Wide before) before → T (same-width before (length q)) → 1 ≤ length q
@@ -190,20 +193,48 @@ unfolding same-width steps
 wide-more [] q h t l = each-more (Wide (q ∷ [])) [] q (each-none (Wide (q ∷ []))) (refl, l)
 wide-more (p ∷ ps) q h t l = each-more (Wide (p ∷ ps)) (p ∷ ps) q h (sym (eqb→eq (length p) (length q) t), l)
 
+-- and as many steps then as it has cells
+pub steps-more : (before : List (List ℕ)) (q : List ℕ) → T (same-width before (length q)) → steps (before ++ (q ∷ [])) ≡ length q
+unfolding same-width steps
+steps-more [] q t = refl
+steps-more (p ∷ ps) q t = eqb→eq (length p) (length q) t
+
+-- paths of the same width, within the limits: "T 1,023, 8,192 path cells"
+pub record Even (ps : List (List ℕ)) : Type 0 where
+  pub wide : Each (Wide ps) ps
+  pub few-steps : steps ps ≤ 1024
+  pub few-cells : length ps * steps ps ≤ 8192
+
+-- no paths
+pub even-none : Even []
+unfolding steps
+even-none = record { wide = each-none (Wide []); few-steps = omega arith; few-cells = omega arith }
+
+-- one path more
+pub even-more : (before : List (List ℕ)) (r q : List ℕ) → Even before → path before r ≡ accepted q → Even (before ++ (q ∷ []))
+unfolding next
+even-more before r q h one =
+    let (same, some-cell, few, room) = path-sound before r q one in
+    let w : steps (before ++ (q ∷ [])) ≡ length q = steps-more before q same in
+    let n : length (before ++ (q ∷ [])) ≡ suc (length before) = omega (arith, length-append before (q ∷ [])) in
+    record {
+      wide = wide-more before q (h .wide) same some-cell;
+      few-steps = subst (λ (k : ℕ). k ≤ 1024) (sym w) few;
+      few-cells = subst (λ (k : ℕ). length (before ++ (q ∷ [])) * k ≤ 8192) (sym w) (subst (λ (k : ℕ). k * length q ≤ 8192) (sym n) room);
+    }
+
 -- of all paths
-one-path-more : (before : List (List ℕ)) (r q : List ℕ) → Each (Wide before) before → path before r ≡ accepted q
-    → Each (Wide (before ++ (q ∷ []))) (before ++ (q ∷ []))
-one-path-more before r q h one = let (same, some-cell) = path-sound before r q one in wide-more before q h same some-cell
+pub in-order-even : (rs ps : List (List ℕ)) → records-in-order path [] rs ≡ accepted ps → Even ps
+in-order-even rs ps e = kept-in-order path Even even-more rs [] ps even-none e
 
 -- of the whole table, which has as many paths as there are carts
-read-paths-sound : (carts : ℕ) (b : List ℕ) (ps : List (List ℕ)) → read-paths carts b ≡ accepted ps → Each (Wide ps) ps × (length ps ≡ carts)
+pub read-paths-sound : (carts : ℕ) (b : List ℕ) (ps : List (List ℕ)) → read-paths carts b ≡ accepted ps → Even ps × (length ps ≡ carts)
 unfolding read-paths
 read-paths-sound carts b ps e =
     let (_, _, e1) = bind-accepted (within-bytes Paths b) _ ps e in
     let (all, from, e2) = bind-accepted (records-in-order path [] (records b)) _ ps e1 in
     let (t, e3) = then-accepted (eqb (length all) carts) PathCount Paths 0 (accepted all) ps e2 in
-    subst (λ (x : List (List ℕ)). Each (Wide x) x × (length x ≡ carts)) (accepted-same all ps e3)
-    (kept-in-order path (λ (x : List (List ℕ)). Each (Wide x) x) one-path-more (records b) [] all (each-none (Wide [])) from, eqb→eq (length all) carts t)
+    subst (λ (x : List (List ℕ)). Even x × (length x ≡ carts)) (accepted-same all ps e3) (in-order-even (records b) all from, eqb→eq (length all) carts t)
 
 -- ---- what two carts or a cart and the roads may not do
 
@@ -316,14 +347,14 @@ accepted-sound ts p e =
     let (alone, e5) = none-found-accepted (first-same-cell ps) SameCell _ p e4 in
     let (_, e6) = none-found-accepted (first-exchange ps) Exchange _ p e5 in
     let (carts, few, one) = read-carts-sound (ts .carts) cs ec in
-    let (wide, count) = read-paths-sound (length cs) (ts .paths) ps ep in
+    let (even, count) = read-paths-sound (length cs) (ts .paths) ps ep in
     subst Sound (accepted-same (record { roads = rs; carts = cs; paths = ps }) p e6)
     (record {
       some-cart = one;
       few-carts = few;
       path-each = count;
-      same-steps = λ q m. wide q m .0;
-      some-step = λ q m. wide q m .1;
+      same-steps = λ q m. even .wide q m .0;
+      some-step = λ q m. even .wide q m .1;
       sound-carts = carts;
       sound-roads = read-roads-sound (ts .roads) rs er;
       on-the-roads = none-off-road rs 1 ps on;

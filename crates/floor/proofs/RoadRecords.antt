@@ -4,12 +4,12 @@ use native.Mathlib.Omega.{arith}
 use mathlib.Core.Path.{_≡_, refl, ap, sym, _∙_, subst}
 use mathlib.Core.Bool.{Bool, true, false, _&&_, not}
 use mathlib.Core.List.{List, [], _∷_, _++_, map, flatMap, append-nil}
-use mathlib.Core.Option.{Option, none, some}
+use mathlib.Core.Option.{none, some}
 use mir.Facts.{and-yes}
-use lib.Dec.{T, leb, ltb, eqb, leb→le, ltb→lt}
+use lib.Dec.{T, leb, eqb, leb→le, ltb→lt}
 use lib.ListN.{length, take, drop, getD, replicate, length-map, List·getD-map, drop-of-length-le}
 use lib.Seq.{take-length}
-use borrow.Author.Tests.{lt-leb, le-leb, eq-eqb, ne-eqb, leb-true, leb-false}
+use borrow.Author.Tests.{lt-leb, le-leb, eq-eqb, ne-eqb}
 use Rattle.laws.proofs.Tests.{fails}
 use Rattle.words.specs.Words.{padded, written}
 use Rattle.csv.specs.Records.{fields}
@@ -19,11 +19,11 @@ use Rattle.floor.specs.declared.Reason.{Reason}
 use Rattle.floor.specs.declared.Reason.the-variants.{Layout, Range, RoadPair, Limit}
 use Rattle.floor.specs.declared.Table.the-variants.{Roads}
 use Rattle.floor.specs.declared.Refusal.{Refusal}
-use Rattle.floor.specs.Refusal.{Judged, refused, accepted, _>>=_, _>>_, need, given, next}
+use Rattle.floor.specs.Refusal.{Judged, refused, accepted, _>>_, need, next}
 use Rattle.floor.specs.Plan.{Road, joined}
 use Rattle.floor.specs.Roads.{cell-range, road-ranges, road}
 use Rattle.floor.specs.Arrays.{road-numbers, roads-in}
-use Rattle.floor.proofs.Judging.{pass, stop, got, lacks}
+use Rattle.floor.proofs.Judging.{pass, stop, got, lacks, then-accepted, and-given-accepted}
 use Rattle.floor.proofs.Turns.{Says, says-need, says-given}
 
 -- the road of four numbers
@@ -90,6 +90,17 @@ module _ (before : List Road) (r : List ℕ) where
             pub road-taken : length before < 1024 → road before r ≡ accepted (road-of ns)
             unfolding next
             road-taken h = road-in-range ∙ pass _ RoadPair Roads (next before) _ (pair false first) ∙ pass _ Limit Roads (next before) _ (le-leb (suc (length before)) 1024 (omega arith))
+
+-- a record that is taken is at most the 1,024th
+pub road-fits : (before : List Road) (r : List ℕ) (d : Road) → road before r ≡ accepted d → suc (length before) ≤ 1024
+unfolding road next
+road-fits before r d e =
+    let (ns, _, e1) = and-given-accepted (numbers (fields r)) Layout Roads _ _ d e in
+    let (_, e2) = then-accepted (eqb (length ns) 4) Layout Roads _ _ d e1 in
+    let (_, e3) = then-accepted (road-ranges (road-of ns)) Range Roads _ _ d e2 in
+    let (_, e4) = then-accepted (not (eqb (getD ns 0 0) (getD ns 1 0)) && not (joined before (getD ns 0 0) (getD ns 1 0))) RoadPair Roads _ _ d e3 in
+    let (l, _) = then-accepted (leb (suc (length before)) 1024) Limit Roads _ _ d e4 in
+    leb→le (suc (length before)) 1024 l
 
 -- a refusal names the roads and the next record
 pub road-says : (before : List Road) (r : List ℕ) → Says Roads (next before) (road before r)
@@ -170,7 +181,7 @@ read-whole fs ns v e h =
     let m : List ℕ = map capped ns in
     let lm : length m ≡ length v = length-map ns capped ∙ h in
     let front : take (length v) (map capped (leading fs)) ≡ m =
-        ap (λ (x : List ℕ). take (length v) (map capped x)) (leading-all fs ns e) ∙ ap (λ (k : ℕ). take k m) (sym lm) ∙ take-length m in
+    ap (λ (x : List ℕ). take (length v) (map capped x)) (leading-all fs ns e) ∙ ap (λ (k : ℕ). take k m) (sym lm) ∙ take-length m in
     ap (λ (x : List ℕ). x ++ drop (length x) v) front ∙ ap (λ (x : List ℕ). m ++ x) (drop-of-length-le v {i = length m} (omega arith)) ∙ append-nil m
 
 -- the roads whose numbers were stored are those that are there

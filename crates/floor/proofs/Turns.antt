@@ -1,16 +1,16 @@
 -- Records judged one after the other, in the turns of a loop: what holds before each turn, and what each way out of a turn gives.
 -- Assumes nothing.
-use Prim.Native.Nat.{ℕ, zero, suc, _+_, _*_, _-_, _≤_, _<_}
-use native.Mathlib.Nat.{sub-zero, mul-zero, mul-suc}
-use native.Mathlib.Numerals.{add-one}
+use Prim.Native.Nat.{ℕ, suc, _+_, _*_, _-_, _≤_, _<_}
+use native.Mathlib.Nat.{mul-zero, mul-suc}
 use native.Mathlib.Omega.{arith}
 use mathlib.Core.Path.{_≡_, refl, ap, sym, _∙_, subst}
 use mathlib.Core.Bool.{Bool, true, false}
 use mathlib.Core.List.{List, [], _∷_, _++_, flatMap, append-assoc, append-nil}
 use mathlib.Core.Option.{Option, none, some}
-use lib.ListN.{length, take, drop, replicate, length-append, length-replicate, length-drop, drop-of-length-le}
-use lib.Seq.{sets, sets-eq, drop-drop, take-at, drop-at}
+use lib.ListN.{length, drop, replicate, length-append, length-drop, drop-of-length-le}
+use lib.Seq.{sets, drop-drop}
 use Rattle.words.specs.Words.{padded}
+use Rattle.words.proofs.Padding.{padded-none, padded-more}
 use Rattle.csv.specs.Records.{records, first-record}
 use Rattle.csv.proofs.Records.{records-none}
 use Rattle.csv.proofs.Reading.{records-first}
@@ -19,7 +19,7 @@ use Rattle.floor.specs.declared.Table.{Table}
 use Rattle.floor.specs.declared.Refusal.{Refusal}
 use Rattle.floor.specs.declared.Taken.{Taken}
 use Rattle.floor.specs.declared.Count.{Count}
-use Rattle.floor.specs.Refusal.{Judged, refused, accepted, _>>=_, need, given, records-in-order}
+use Rattle.floor.specs.Refusal.{Judged, refused, accepted, _>>=_, need, given, next, records-in-order}
 use Rattle.floor.specs.Reading.{taken, stored, counted}
 use Rattle.floor.proofs.Judging.{refused-not-accepted, accepted-same}
 
@@ -78,38 +78,10 @@ pub left-taken : {A : Type 0} (numbers : A → List ℕ) (at : ℕ) (s s′ : Li
 unfolding taken stored
 left-taken {A} numbers at s s′ j a e put = (sym (ap taken e), put ∙ sym (ap (λ (x : Judged A). stored numbers at x s) e))
 
--- ---- numbers in front of zeros
-
--- an array of zeros holds nothing yet
-pub padded-none : (n : ℕ) → padded n [] ≡ replicate n 0
-unfolding padded
-padded-none n = ap (λ (k : ℕ). replicate k 0) (sub-zero n)
-
--- zeros after some zeros
-zeros-after : (k n : ℕ) → drop k (replicate {A = ℕ} n 0) ≡ replicate (n - k) 0
-zeros-after zero n = ap (λ (i : ℕ). replicate i 0) (sym (sub-zero n))
-zeros-after (suc k) zero = ap (λ (i : ℕ). replicate i 0) {x = 0} {y = 0 - suc k} (omega arith)
-zeros-after (suc k) (suc n) = zeros-after k n ∙ ap (λ (i : ℕ). replicate i 0) {x = n - k} {y = suc n - suc k} (omega arith)
-
-padded-length : (n : ℕ) (l : List ℕ) → length l ≤ n → length (padded n l) ≡ n
-unfolding padded
-padded-length n l h = omega (arith, length-append l (replicate (n - length l) 0), length-replicate {A = ℕ} (n - length l) 0)
-
--- numbers stored behind those that are there
-pub padded-more : (n : ℕ) (l vs : List ℕ) → length l + length vs ≤ n → sets (padded n l) (length l) vs ≡ padded n (l ++ vs)
-unfolding padded
-padded-more n l vs h =
-    let z : List ℕ = replicate (n - length l) 0 in
-    let front : take (length l) (padded n l) ≡ l = take-at l z (length l) refl in
-    let back : drop (length l + length vs) (padded n l) ≡ replicate (n - length (l ++ vs)) 0 =
-    sym (drop-drop (length vs) (length l) (padded n l)) ∙ ap (drop (length vs)) (drop-at l z (length l) refl) ∙ zeros-after (length vs) (n - length l)
-    ∙ ap (λ (k : ℕ). replicate k 0) {x = n - length l - length vs} {y = n - length (l ++ vs)} (omega (arith, length-append l vs)) in
-    sets-eq vs (padded n l) (length l) (omega (arith, h, padded-length n l (omega arith)))
-    ∙ ap (λ (x : List ℕ). x ++ vs ++ drop (length l + length vs) (padded n l)) front
-    ∙ ap (λ (x : List ℕ). l ++ vs ++ x) back
+-- ---- the numbers of many
 
 -- the numbers of one more
-flat-more : {A : Type 0} (numbers : A → List ℕ) (as′ : List A) (a : A) → flatMap numbers (as′ ++ (a ∷ [])) ≡ flatMap numbers as′ ++ numbers a
+pub flat-more : {A : Type 0} (numbers : A → List ℕ) (as′ : List A) (a : A) → flatMap numbers (as′ ++ (a ∷ [])) ≡ flatMap numbers as′ ++ numbers a
 unfolding flatMap
 flat-more numbers [] a = append-nil (numbers a)
 flat-more numbers (x ∷ xs) a = ap (λ (l : List ℕ). numbers x ++ l) (flat-more numbers xs a) ∙ sym (append-assoc (numbers x) (flatMap numbers xs) (numbers a))
@@ -132,7 +104,7 @@ pub record Turn {A : Type 0} (judge : List A → List ℕ → Judged A) (numbers
 
 module _ {A : Type 0} (judge : List A → List ℕ → Judged A) (numbers : A → List ℕ) where
   -- before the first
-  pub first-turn : (t s : List ℕ) (at : ℕ) → s ≡ replicate (length s) 0
+  unfoldable pub first-turn : (t s : List ℕ) (at : ℕ) → s ≡ replicate (length s) 0
       → Turn judge numbers (records-in-order judge [] (records (drop at t))) t (length s) s at 0
   unfolding flatMap
   first-turn t s at z = record { before = []; count = refl; held = z ∙ sym (padded-none (length s)); rest = refl }
@@ -141,17 +113,36 @@ module _ {A : Type 0} (judge : List A → List ℕ → Judged A) (numbers : A �
   abbrev pub Ends : Judged (List A) → ℕ → Count → List ℕ → Type 0
   Ends whole size r s = (r ≡ counted whole) × ((as′ : List A) → whole ≡ accepted as′ → s ≡ padded size (flatMap numbers as′))
 
-  -- after the last
+  -- of a table that is refused, whatever the array holds
+  pub refused-ends : (whole : Judged (List A)) (size : ℕ) (s : List ℕ) (r : Refusal) → whole ≡ refused r → Ends whole size (Count.Refused r) s
+  unfolding counted
+  refused-ends whole size s r e = (sym (ap counted e), λ as′ f. absurd (refused-not-accepted r as′ (sym e ∙ f)))
+
+  -- of a table that says what another says
+  pub ends-as : (whole other : Judged (List A)) (size : ℕ) (r : Count) (s : List ℕ) → whole ≡ other → Ends other size r s → Ends whole size r s
+  ends-as whole other size r s e h = subst (λ (x : Judged (List A)). Ends x size r s) (sym e) h
+
+  -- those that the whole accepts stand in the array
+  pub stands : (whole : Judged (List A)) (size : ℕ) (s : List ℕ) (before : List A) → whole ≡ accepted before → s ≡ padded size (flatMap numbers before)
+      → (as′ : List A) → whole ≡ accepted as′ → s ≡ padded size (flatMap numbers as′)
+  stands whole size s before e held as′ f = held ∙ ap (λ (x : List A). padded size (flatMap numbers x)) (accepted-same _ _ (sym e ∙ f))
+
+  -- after the last, those before are all
+  pub all-taken : (whole : Judged (List A)) (t : List ℕ) (size : ℕ) (s : List ℕ) (at n : ℕ) (u : Turn judge numbers whole t size s at n) → length t ≤ at
+      → whole ≡ accepted (u .before)
+  unfolding records-in-order
+  all-taken whole t size s at n u h =
+      u .rest ∙ ap (λ (x : List ℕ). records-in-order judge (u .before) (records x)) (drop-of-length-le t h) ∙ ap (records-in-order judge (u .before)) records-none
+
   pub last-turn : (whole : Judged (List A)) (t : List ℕ) (size : ℕ) (s : List ℕ) (at n : ℕ) → Turn judge numbers whole t size s at n → length t ≤ at
       → Ends whole size (Count.Read n) s
-  unfolding records-in-order counted
+  unfolding counted
   last-turn whole t size s at n u h =
-      let e : whole ≡ accepted (u .before) =
-      u .rest ∙ ap (λ (x : List ℕ). records-in-order judge (u .before) (records x)) (drop-of-length-le t h) ∙ ap (records-in-order judge (u .before)) records-none in
-      (ap Count.Read (sym (u .count)) ∙ sym (ap counted e), λ as′ f. u .held ∙ ap (λ (x : List A). padded size (flatMap numbers x)) (accepted-same _ _ (sym e ∙ f)))
+      let e : whole ≡ accepted (u .before) = all-taken whole t size s at n u h in
+      (ap Count.Read (sym (u .count)) ∙ sym (ap counted e), stands whole size s (u .before) e (u .held))
 
   -- the record whose turn it is, and the rest
-  turn-is : (before : List A) (t : List ℕ) (at : ℕ) → at < length t
+  pub turn-is : (before : List A) (t : List ℕ) (at : ℕ) → at < length t
       → records-in-order judge before (records (drop at t))
       ≡ (judge before (first-record (drop at t)) >>= λ a. records-in-order judge (before ++ (a ∷ [])) (records (drop (at + length (first-record (drop at t)) + 2) t)))
   unfolding records-in-order
@@ -163,15 +154,28 @@ module _ {A : Type 0} (judge : List A → List ℕ → Judged A) (numbers : A �
       (drop-drop (k + 2) at t ∙ ap (λ (i : ℕ). drop i t) {x = at + (k + 2)} {y = at + k + 2} (omega arith))
 
   -- a record that is refused ends it
+  pub whole-refused : (whole : Judged (List A)) (t : List ℕ) (size : ℕ) (s : List ℕ) (at n : ℕ) (u : Turn judge numbers whole t size s at n) → at < length t
+      → (r : Refusal) → judge (u .before) (first-record (drop at t)) ≡ refused r → whole ≡ refused r
+  unfolding _>>=_
+  whole-refused whole t size s at n u h r j =
+      u .rest ∙ turn-is (u .before) t at h
+      ∙ ap (λ (x : Judged A). x >>= λ a. records-in-order judge (u .before ++ (a ∷ [])) (records (drop (at + length (first-record (drop at t)) + 2) t))) j
+
   pub refused-turn : (whole : Judged (List A)) (t : List ℕ) (size : ℕ) (s s′ : List ℕ) (at n : ℕ) (u : Turn judge numbers whole t size s at n) → at < length t
       → (r : Refusal) → judge (u .before) (first-record (drop at t)) ≡ refused r → Ends whole size (Count.Refused r) s′
-  unfolding _>>=_ counted
   refused-turn whole t size s s′ at n u h r j =
-      let e : whole ≡ refused r = u .rest ∙ turn-is (u .before) t at h ∙ ap (λ (x : Judged A). x >>= λ a. records-in-order judge (u .before ++ (a ∷ [])) (records (drop (at + length (first-record (drop at t)) + 2) t))) j in
-      (sym (ap counted e), λ as′ f. absurd (refused-not-accepted r as′ (sym e ∙ f)))
+      refused-ends whole size s′ r (whole-refused whole t size s at n u h r j)
+
+  -- and its refusal has the number of its turn
+  pub refused-number : (whole : Judged (List A)) (t : List ℕ) (size : ℕ) (s : List ℕ) (at n : ℕ) (u : Turn judge numbers whole t size s at n) (table : Table)
+      (j : Judged A) (why : Reason) → Says table (next (u .before)) j → taken j ≡ Taken.Refused why → j ≡ refused (record { reason = why; table = table; row = n + 1 })
+  unfolding next
+  refused-number whole t size s at n u table j why h e =
+      refused-there table (suc (length (u .before))) j why h e
+      ∙ ap (λ (i : ℕ). refused (record { reason = why; table = table; row = i })) {x = suc (length (u .before))} {y = n + 1} (omega (arith, u .count))
 
   -- one that is taken goes before the next
-  pub taken-turn : (whole : Judged (List A)) (t : List ℕ) (size : ℕ) (s s′ : List ℕ) (at n : ℕ) (u : Turn judge numbers whole t size s at n) → at < length t
+  unfoldable pub taken-turn : (whole : Judged (List A)) (t : List ℕ) (size : ℕ) (s s′ : List ℕ) (at n : ℕ) (u : Turn judge numbers whole t size s at n) → at < length t
       → (a : A) → judge (u .before) (first-record (drop at t)) ≡ accepted a
       → length (flatMap numbers (u .before)) + length (numbers a) ≤ size
       → s′ ≡ sets s (length (flatMap numbers (u .before))) (numbers a)
@@ -187,3 +191,13 @@ module _ {A : Type 0} (judge : List A → List ℕ → Judged A) (numbers : A �
             u .rest ∙ turn-is (u .before) t at h
             ∙ ap (λ (x : Judged A). x >>= λ a. records-in-order judge (u .before ++ (a ∷ [])) (records (drop (at + length (first-record (drop at t)) + 2) t))) j;
       }
+
+  -- the same, of a part of the table that is that record
+  pub taken-row : (whole : Judged (List A)) (t : List ℕ) (size : ℕ) (s s′ : List ℕ) (at n : ℕ) (u : Turn judge numbers whole t size s at n) → at < length t
+      → (r : List ℕ) → r ≡ first-record (drop at t)
+      → (a : A) → judge (u .before) (first-record (drop at t)) ≡ accepted a
+      → length (flatMap numbers (u .before)) + length (numbers a) ≤ size
+      → s′ ≡ sets s (length (flatMap numbers (u .before))) (numbers a)
+      → Turn judge numbers whole t size s′ (at + length r + 2) (n + 1)
+  taken-row whole t size s s′ at n u h r e a j room put =
+      subst (λ (x : List ℕ). Turn judge numbers whole t size s′ (at + length x + 2) (n + 1)) (sym e) (taken-turn whole t size s s′ at n u h a j room put)

@@ -19,7 +19,7 @@ use Rattle.floor.specs.declared.PathsRead.{PathsRead}
 use Rattle.floor.specs.Refusal.{Judged, refused, accepted, _>>=_, _>>_, unless-found}
 use Rattle.floor.specs.Plan.{Road, Plan}
 use Rattle.floor.specs.Carts.{number-or-empty}
-use Rattle.floor.specs.Paths.{steps, off-road, first-same-cell, first-exchange}
+use Rattle.floor.specs.Paths.{read-paths, steps, off-road, first-same-cell, first-exchange}
 use Rattle.floor.specs.Tables.{Tables, read-tables}
 use Rattle.floor.specs.Arrays.{road-numbers, cart-numbers, path-cells}
 
@@ -66,6 +66,10 @@ apart rs ps = do
   unless-found (first-same-cell ps) SameCell
   unless-found (first-exchange ps) Exchange
   accepted ps
+
+-- the table of paths, and then these
+unfoldable pub read-apart : List Road → ℕ → List ℕ → Judged (List (List ℕ))
+read-apart rs carts b = read-paths carts b >>= apart rs
 
 -- a record that was found, 0 where none was
 unfoldable pub found : Option ℕ → ℕ
@@ -122,7 +126,12 @@ reading ts a =
       | true ↦ record { answer = read-answer (read-tables ts); arrays = arrays-judged a (read-tables ts) }
     ]
 
+-- the same, of the six slices lent to the reader
+unfoldable pub read-into : List ℕ → List ℕ → List ℕ → List ℕ → List ℕ → List ℕ → Outcome
+read-into roads carts paths edges speeds cells =
+    reading (record { roads = roads; carts = carts; paths = paths }) (record { roads = edges; carts = speeds; cells = cells })
+
 -- Names every definition of this module, for a proof that computes with them all.
 unfoldable pub open-reading : Unit {0}
-unfolding taken stored counted speeds speeds-of path-taken paths-read apart found room read-answer zeros numbers-of arrays-judged reading
+unfolding taken stored counted speeds speeds-of path-taken paths-read apart read-apart found room read-answer zeros numbers-of arrays-judged reading read-into
 open-reading = tt

@@ -1,5 +1,16 @@
-// The calls on a plan: what each answers. The definitions of what the calls do are in specs/.
+// The calls on a plan. The definitions of what they answer and leave are in specs/.
+use floor::Reading;
+use floor::Reason;
 use floor::Refusal;
+use floor::Table;
+ghost use mathlib.Core.Path.{_≡_};
+ghost use mathlib.Core.List.{[]};
+ghost use Prim.Native.Nat.{_≤_};
+ghost use lib.ListN.{length, replicate};
+ghost use Rattle.words.specs.Words.{written};
+ghost use Rattle.network.specs.Judge.{judge};
+ghost use Rattle.hegtalim.specs.PlanSlice.{plan-slice};
+ghost use Rattle.hegtalim.specs.Outcomes.{load-judged, load};
 
 // What a load answers; specs/Answers.antt gives each case of each answer its number and values.
 pub enum Loaded {
@@ -23,4 +34,86 @@ pub enum Timed {
     TooShort,
     NoPlan,
     NoTimes { length: usize },
+}
+
+// Zeros in every place.
+fn clear(s: &mut [u8])
+    ensures { λ _. ⌜ now (s .exit) ≡ replicate (length (now (s .entry))) 0 ⌝ }
+{
+    let mut i = 0;
+    while i < s.len() {
+        s[i] = 0;
+        i += 1;
+    }
+}
+
+// Writes bytes over the front of a slice.
+fn write_front(bytes: &[u8], s: &mut [u8])
+    requires { ⌜ length (now bytes) ≤ length (now s) ⌝ }
+    ensures { λ _. ⌜ now (s .exit) ≡ written (now (bytes .entry)) (now (s .entry)) ⌝ }
+{
+    let mut i = 0;
+    while i < bytes.len() {
+        s[i] = bytes[i];
+        i += 1;
+    }
+}
+
+// Writes the tables into a slice of zeros, each to its place.
+fn store_tables(roads: &[u8], carts: &[u8], paths: &[u8], plan: &mut [u8])
+    requires { ⌜ (length (now roads) ≤ 65536) × (length (now carts) ≤ 65536) × (length (now paths) ≤ 65536) ⌝ }
+    requires { ⌜ (233472 ≤ length (now plan)) × (now plan ≡ replicate (length (now plan)) 0) ⌝ }
+    ensures { λ _. ⌜ now (plan .exit) ≡ plan-slice (length (now (plan .entry))) (record { roads = now (roads .entry); carts = now (carts .entry); paths = now (paths .entry) }) [] ⌝ }
+{
+    write_front(roads, plan);
+    write_front(carts, &mut plan[65_536..]);
+    write_front(paths, &mut plan[131_072..]);
+}
+
+// What is said of three tables.
+fn judge_tables(roads: &[u8], carts: &[u8], paths: &[u8]) -> Loaded
+    ensures { λ r. ⌜ r ≡ load-judged (record { roads = now (roads .entry); carts = now (carts .entry); paths = now (paths .entry) }) 0 (judge (record { roads = now (roads .entry); carts = now (carts .entry); paths = now (paths .entry) })) .answer ⌝ }
+{
+    let mut edges = [0u32; 4096];
+    let mut speeds = [0u32; 128];
+    let mut cells = [0u32; 8192];
+    let x = floor::read_tables(roads, carts, paths, &mut edges, &mut speeds, &mut cells);
+    match x {
+        Reading::Refused(why) => Loaded::Refused(why),
+        Reading::TooShort => Loaded::TooShort,
+        Reading::Read {
+            roads: _,
+            carts: n,
+            steps: w,
+        } => {
+            if network::within_limits(&cells, n, w) {
+                return Loaded::Held;
+            }
+            Loaded::Refused(Refusal {
+                reason: Reason::Limit,
+                table: Table::Paths,
+                row: 0,
+            })
+        }
+    }
+}
+
+// Loads a plan: three tables in, a plan held or the refusal.
+pub fn load(roads: &[u8], carts: &[u8], paths: &[u8], plan: &mut [u8]) -> Loaded
+    ensures answer { λ r. ⌜ r ≡ load (record { roads = now (roads .entry); carts = now (carts .entry); paths = now (paths .entry) }) (now (plan .entry)) .answer ⌝ }
+    ensures left { λ _. ⌜ now (plan .exit) ≡ load (record { roads = now (roads .entry); carts = now (carts .entry); paths = now (paths .entry) }) (now (plan .entry)) .plan ⌝ }
+{
+    if plan.len() < 233_472 {
+        return Loaded::TooShort;
+    }
+    clear(plan);
+    let x = judge_tables(roads, carts, paths);
+    match x {
+        Loaded::Held => {
+            store_tables(roads, carts, paths, plan);
+            Loaded::Held
+        }
+        Loaded::TooShort => Loaded::TooShort,
+        Loaded::Refused(why) => Loaded::Refused(why),
+    }
 }

@@ -124,7 +124,7 @@ event-within p k r x v m q =
 -- ---- the parts of a route's moves
 
 -- three points for every three parts
-parts-after-length : (roads : List Road) (c : Cart) (x : Visit) (ys : List Visit) → length (parts-after roads c x ys) ≡ length (points-after x ys)
+pub parts-after-length : (roads : List Road) (c : Cart) (x : Visit) (ys : List Visit) → length (parts-after roads c x ys) ≡ length (points-after x ys)
 unfolding parts-after points-after parts part-lengths
 parts-after-length roads c x [] = refl
 parts-after-length roads c x (y ∷ ys) = ap (λ (n : ℕ). suc (suc (suc n))) (parts-after-length roads c y ys)

@@ -77,7 +77,7 @@ found-at-place (p ∷ ps) e (suc i) d h l =
         omega (arith, same-step, same-level, lower)
 
 -- three points for each move: where they stand
-points-after-length : (x : Visit) (xs : List Visit) → length (points-after x xs) ≡ 3 * length xs
+pub points-after-length : (x : Visit) (xs : List Visit) → length (points-after x xs) ≡ 3 * length xs
 unfolding points-after
 points-after-length x [] = refl
 points-after-length x (y ∷ ys) = let e = points-after-length y ys in omega (arith, e)

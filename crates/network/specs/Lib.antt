@@ -4,4 +4,5 @@ pub mod Judge
 pub mod Meaning
 pub mod Levels
 pub mod Limits
+pub mod Counts
 pub mod Open

@@ -1,4 +1,6 @@
 // The simple temporal network of a plan: its events and bounds. The definitions are in specs/.
+mod count;
+
 ghost use mathlib.Core.Path.{_≡_};
 ghost use Rattle.network.specs.Limits.{paths-within};
 
@@ -15,5 +17,13 @@ pub fn within_limits(cells: &[u32], carts: usize, steps: usize) -> bool
     if cells.len() < carts * steps {
         return false;
     }
-    true
+    if steps == 0 {
+        return true;
+    }
+    let moves = count::all_moves(cells, carts, steps);
+    if 4096 < 2 + carts + 3 * moves {
+        return false;
+    }
+    let orders = count::all_orders(cells, carts, steps);
+    2 * carts + 3 * moves + orders <= 8192
 }

@@ -1,8 +1,6 @@
 -- `floor::roads::in_ranges` meets its contract, test by test. Assumes nothing.
-use Prim.Native.Nat.{_*_}
-use native.Mathlib.Omega.{arith}
 use borrow.Author.Needs.{needs}
-use borrow.Author.Tests.{le-leb, lt-leb, lt-ltb, le-ltb}
+use borrow.Author.Tests.{le-leb, lt-leb}
 use Rattle.floor.specs.Roads.{cell-range, road-ranges}
 use Rattle.floor.proofs.roads.in_ranges.Statement.{statement}
 use Rattle.floor.proofs.roads.in_ranges.Tie as tie

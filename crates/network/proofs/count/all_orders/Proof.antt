@@ -1,0 +1,51 @@
+-- `network::count::all_orders` meets its contract: the visits of all paths are put in a row, and the bounds counted there. Assumes nothing.
+use mathlib.Core.Path.{ap, _∙_}
+use Rattle.network.specs.Counts.{orders-among}
+use borrow.Author.Needs.{needs}
+use Rattle.network.proofs.count.all_orders.Statement.{statement}
+use Rattle.network.proofs.count.all_orders.Tie as tie
+use Rattle.network.proofs.count.all_orders.Reads as reads
+use Rattle.network.proofs.count.all_orders.Lts as lts
+use Rattle.network.proofs.count.orders_among.Reads as orders-among-reads
+use Rattle.network.proofs.count.put_all.Reads as put-all-reads
+
+slice-aggregate-put-all : tie.Need-slice-aggregate-put-all
+slice-aggregate-put-all c = search needs
+
+slice-aggregate-put-all-2 : tie.Need-slice-aggregate-put-all-2
+slice-aggregate-put-all-2 c = search needs
+
+slice-aggregate-put-all-3 : tie.Need-slice-aggregate-put-all-3
+slice-aggregate-put-all-3 c = search needs
+
+put-all-requires : tie.Need-put-all-requires
+put-all-requires c κs = search needs
+
+slice-aggregate-orders-among : tie.Need-slice-aggregate-orders-among
+slice-aggregate-orders-among c = search needs
+
+slice-aggregate-orders-among-2 : tie.Need-slice-aggregate-orders-among-2
+slice-aggregate-orders-among-2 c = search needs
+
+slice-aggregate-orders-among-3 : tie.Need-slice-aggregate-orders-among-3
+slice-aggregate-orders-among-3 c = search needs
+
+orders-among-requires : tie.Need-orders-among-requires
+orders-among-requires c κs = search needs
+
+returns : tie.Need-returns
+returns c = (c .orders-among .ensures .0 ∙ ap orders-among (c .before .before .before .before .before .before .before .put-all .ensures .1), c .orders-among .ensures .1)
+
+pub all-orders-spec : {M : Type 1} → statement M
+all-orders-spec =
+    tie.close
+    (tie.spec
+    slice-aggregate-put-all
+    slice-aggregate-put-all-2
+    slice-aggregate-put-all-3
+    put-all-requires
+    slice-aggregate-orders-among
+    slice-aggregate-orders-among-2
+    slice-aggregate-orders-among-3
+    orders-among-requires
+    returns)
