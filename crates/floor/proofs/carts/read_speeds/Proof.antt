@@ -1,4 +1,5 @@
 -- `floor::carts::read_speeds` meets its contract, case by case. Assumes nothing.
+use native.Mathlib.Omega.{arith}
 use mathlib.Core.Path.{sym, _∙_}
 use borrow.Author.Needs.{needs}
 use Rattle.floor.proofs.CartRecords.{speeds-one, speeds-many, speeds-none, speeds-alone, speeds-half, speeds-both}
@@ -26,7 +27,7 @@ add-if2-2 c = search needs
 returns-2 : tie.Need-returns-2
 returns-2 c =
     let e = c .before .before in
-    speeds-many _ _ (e .before .field .ensures) _ (c .before .field2 .ensures) (e .if1 .left) (c .if2 .taken)
+    speeds-many _ _ (e .before .field .ensures) _ (c .before .field2 .ensures) (e .if1 .left) (omega (arith, c .if2 .taken))
 
 parse-number-requires : tie.Need-parse-number-requires
 parse-number-requires c κs = search needs

@@ -1,4 +1,5 @@
 -- `floor::carts::read_table` meets its contract, case by case. Assumes nothing.
+use native.Mathlib.Omega.{arith}
 use mathlib.Core.Path.{_≡_, ap, _∙_}
 use Rattle.csv.specs.Text.{bytes, same}
 use Rattle.csv.specs.Records.{first-record}
@@ -16,7 +17,7 @@ line c = c .same-bytes .ensures ∙ ap (same (bytes "fastest,slowest")) (c .befo
 returns : tie.Need-returns
 returns c =
     let a = c .before .before .before .args in
-    read-over (a .table .now) _ _ (c .if1 .taken)
+    read-over (a .table .now) _ _ (omega (arith, c .if1 .taken))
 
 slice-aggregate-same-bytes : tie.Need-slice-aggregate-same-bytes
 slice-aggregate-same-bytes c = search needs
