@@ -128,7 +128,7 @@ one-cart-more before r c h one =
     (each-more SoundCart before c (h .0) good, omega (arith, length-append before (c ∷ []), few))
 
 -- of the whole table, which has a cart
-read-carts-sound : (b : List ℕ) (cs : List Cart) → read-carts b ≡ accepted cs → Each SoundCart cs × (length cs ≤ 64) × (1 ≤ length cs)
+pub read-carts-sound : (b : List ℕ) (cs : List Cart) → read-carts b ≡ accepted cs → Each SoundCart cs × (length cs ≤ 64) × (1 ≤ length cs)
 unfolding read-carts
 read-carts-sound b cs e =
     let (_, _, e1) = bind-accepted (within-bytes Carts b) _ cs e in
