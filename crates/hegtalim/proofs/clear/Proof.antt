@@ -19,9 +19,6 @@ abbrev μ-loop : tie.MeasureT-loop
 loop-holds : tie.Need-loop-holds Inv-loop μ-loop
 loop-holds c = (omega arith, refl, fill-none _ 0)
 
-mul-s : tie.Need-mul-s Inv-loop μ-loop
-mul-s c = search needs
-
 slice-write-s : tie.Need-slice-write-s Inv-loop μ-loop
 slice-write-s c = search needs
 
@@ -48,4 +45,4 @@ returns c =
     l .inv .2 ∙ ap (λ (k : ℕ). replicate k 0 ++ drop k s) all ∙ ap (λ (x : List ℕ). replicate (length s) 0 ++ x) (drop-length s) ∙ append-nil (replicate (length s) 0)
 
 pub clear-spec : {M : Type 1} → statement M
-clear-spec = tie.close (tie.spec Inv-loop μ-loop loop-holds mul-s slice-write-s add-i loop-less loop-again same-length returns)
+clear-spec = tie.close (tie.spec Inv-loop μ-loop loop-holds slice-write-s add-i loop-less loop-again same-length returns)

@@ -1,7 +1,7 @@
 -- `hegtalim::write_front` meets its contract: the first i bytes are written. Assumes nothing.
 use mathlib.Core.Path.{_≡_, refl, ap, _∙_}
 use mathlib.Core.List.{List, _++_}
-use Prim.Native.Nat.{_-_, _≤_}
+use Prim.Native.Nat.{ℕ, _-_, _≤_}
 use native.Mathlib.Omega.{arith}
 use lib.ListN.{length, take, drop, set, getD, length-set}
 use borrow.Author.Needs.{needs}
@@ -34,13 +34,16 @@ loop-again : tie.Need-loop-again Inv-loop μ-loop
 loop-again c =
     let l = c .before .before .loop in
     let a = c .before .before .before .args in
-    (omega arith, simp length-set (l .inv .1), ?)
+    (omega arith, simp length-set (l .inv .1), ap (λ (x : List ℕ). set x (l .i) (getD (a .bytes .now) (l .i) 0)) (l .inv .2) ∙ front-more (a .bytes .now) (a .s .now) (l .i) (omega arith) (c .before .before .before .pre))
 
 same-length : tie.Need-same-length Inv-loop μ-loop
 same-length c = c .before .loop .inv .1
 
 returns : tie.Need-returns Inv-loop μ-loop
-returns c = ?
+returns c =
+    let l = c .before .loop in
+    let a = c .before .before .args in
+    l .inv .2 ∙ front-all (a .bytes .now) (a .s .now) (l .i) (omega arith)
 
 pub write-front-spec : {M : Type 1} → statement M
 write-front-spec =

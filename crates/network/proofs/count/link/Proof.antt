@@ -68,8 +68,7 @@ loop-again c =
     let l = c .before .before .before in
     let a = l .before .args in
     let u : ℕ = a .n - (l .loop .left + 1) in
-    let b : ℕ = getD (a .places .now) u 0 % 1024 in
-    (
+    let b : ℕ = getD (a .places .now) u 0 % 1024 in (
       omega arith,
       length-set (l .loop .heads) b (l .loop .left + 1) ∙ l .loop .inv .1,
       length-set (l .loop .nexts) u (getD (l .loop .heads) b 0) ∙ l .loop .inv .2,
