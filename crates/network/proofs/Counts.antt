@@ -1,18 +1,16 @@
 -- How many events and bounds there are goes by the paths alone, and is what `specs.Counts` counts. Assumes nothing.
-use Prim.Native.Nat.{ℕ, zero, suc, _+_, _*_, _≤_, _<_}
+use Prim.Native.Nat.{ℕ, zero, suc, _+_, _*_, _<_}
 use native.Mathlib.Omega.{arith}
 use mathlib.Core.Path.{_≡_, refl, ap, sym, _∙_}
-use mathlib.Core.Logic.{_≢_}
 use mathlib.Core.Bool.{Bool, true, false, not, _&&_, cond}
 use mathlib.Core.List.{List, [], _∷_, _++_, map, flatMap, List·Memᴰ, List·Memᴰ·head, List·Memᴰ·tail}
 use mathlib.Core.Option.{Option, none, some}
 use lib.Dec.{leb, ltb, eqb}
 use lib.ListN.{length, getD, length-append, length-map}
-use Rattle.laws.proofs.Members.{at-place}
-use Rattle.laws.proofs.Tests.{tells-apart, unequal-fails, equal-passes}
+use Rattle.laws.proofs.Tests.{unequal-fails, equal-passes}
 use Rattle.laws.proofs.Rising.{Rises, Rising, rises-first}
 use Rattle.floor.specs.Plan.{Road, Cart, Plan}
-use Rattle.network.specs.Events.{Visit, visits-after, visits-of, Kind, approach, leave, point, same-kind, find-point, points-after, points, Route, routes, routes-of, route-points, event-of, event-count, last-event, finish-event}
+use Rattle.network.specs.Events.{Visit, visits-after, visits-of, approach, leave, point, same-kind, find-point, points-after, points, Route, routes, routes-of, route-points, event-of, event-count, last-event, finish-event}
 use Rattle.network.specs.Bounds.{Bound, no-earlier, Part, route-parts, part-bounds, start-bounds, travel-bounds, first-later, between, order-bound, order-bounds-to, order-bounds, finish-bounds, bounds}
 use Rattle.network.specs.Limits.{of-paths, limits-kept}
 use Rattle.network.specs.Counts.{total, moves-after, moves, Stop, stop, stops, counted, later-carts, goes-on, orders-from, orders-among}

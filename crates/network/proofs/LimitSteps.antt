@@ -6,13 +6,13 @@ use mathlib.Core.Path.{_≡_, refl, ap, sym, _∙_, subst}
 use mathlib.Core.Bool.{Bool, true, false, _&&_}
 use mathlib.Core.List.{List, [], _∷_}
 use lib.Dec.{leb}
-use lib.ListN.{length, take, drop, length-take, length-drop}
+use lib.ListN.{length, take, drop, length-drop}
 use lib.Seq.{length-take-le}
 use borrow.Author.Tests.{le-leb, lt-leb}
 use Rattle.floor.specs.Arrays.{paths-in}
 use Rattle.network.specs.Events.{visits-of, points}
 use Rattle.network.specs.Limits.{of-paths, limits-kept, paths-within}
-use Rattle.network.specs.Counts.{total, moves, Stop, stops, orders-from, orders-among}
+use Rattle.network.specs.Counts.{total, moves, stops, orders-from, orders-among}
 use Rattle.network.proofs.Counts.{path-points, point-count, limits-are}
 
 -- ---- paths in an array

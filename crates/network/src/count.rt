@@ -148,7 +148,15 @@ fn link(places: &[u32], n: usize, heads: &mut [u32], nexts: &mut [u32])
 }
 
 // How many other carts visit the cell of visit v later. The visits of its remainder are gone through.
-fn others_later(numbers: &[u32], times: &[u32], places: &[u32], heads: &[u32], nexts: &[u32], n: usize, v: usize) -> usize
+fn others_later(
+    numbers: &[u32],
+    times: &[u32],
+    places: &[u32],
+    heads: &[u32],
+    nexts: &[u32],
+    n: usize,
+    v: usize,
+) -> usize
     requires { ⌜ (n ≤ 1408) × (v < n) ⌝ }
     requires { ⌜ (length (now numbers) ≡ 1408) × (length (now times) ≡ 1408) × (length (now places) ≡ 1408) ⌝ }
     requires { ⌜ (length (now heads) ≡ 1024) × (length (now nexts) ≡ 1408) × Linked (now places) (now heads) (now nexts) n n ⌝ }
@@ -174,7 +182,14 @@ fn others_later(numbers: &[u32], times: &[u32], places: &[u32], heads: &[u32], n
 }
 
 // How many order bounds there are among n visits.
-fn orders_among(numbers: &[u32], times: &[u32], places: &[u32], heads: &[u32], nexts: &[u32], n: usize) -> usize
+fn orders_among(
+    numbers: &[u32],
+    times: &[u32],
+    places: &[u32],
+    heads: &[u32],
+    nexts: &[u32],
+    n: usize,
+) -> usize
     requires { ⌜ n ≤ 1408 ⌝ }
     requires { ⌜ (length (now numbers) ≡ 1408) × (length (now times) ≡ 1408) × (length (now places) ≡ 1408) ⌝ }
     requires { ⌜ (length (now heads) ≡ 1024) × (length (now nexts) ≡ 1408) × Linked (now places) (now heads) (now nexts) n n ⌝ }

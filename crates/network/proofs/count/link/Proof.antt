@@ -1,16 +1,13 @@
 -- `network::count::link` meets its contract. The loop's invariant: the last `left` visits are linked. Assumes nothing.
-use Prim.Native.Nat.{ℕ, zero, suc, _+_, _%_, _≤_, _<_, _-_}
-use native.Mathlib.Nat.{mod-lt}
+use Prim.Native.Nat.{ℕ, _+_, _%_, _≤_, _-_}
 use native.Mathlib.Omega.{arith}
-use mathlib.Core.Path.{_≡_, refl, ap, sym, _∙_, subst}
+use mathlib.Core.Path.{_≡_, refl, _∙_, subst}
 use borrow.Author.Needs.{needs}
 use lib.ListN.{length, getD, length-set}
 use Rattle.network.specs.Counts.{Linked}
 use Rattle.network.proofs.Links.{none-linked, one-linked}
 use Rattle.network.proofs.count.link.Statement.{statement}
 use Rattle.network.proofs.count.link.Tie as tie
-use Rattle.network.proofs.count.link.Reads as reads
-use Rattle.network.proofs.count.link.Lts as lts
 
 abbrev Inv-loop : tie.InvT-loop
 Inv-loop places n heads₀ nexts₀ left₀ heads nexts left =
@@ -68,8 +65,7 @@ loop-again c =
     let l = c .before .before .before in
     let a = l .before .args in
     let u : ℕ = a .n - (l .loop .left + 1) in
-    let b : ℕ = getD (a .places .now) u 0 % 1024 in
-    (
+    let b : ℕ = getD (a .places .now) u 0 % 1024 in (
       omega arith,
       length-set (l .loop .heads) b (l .loop .left + 1) ∙ l .loop .inv .1,
       length-set (l .loop .nexts) u (getD (l .loop .heads) b 0) ∙ l .loop .inv .2,
