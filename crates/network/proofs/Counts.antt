@@ -53,11 +53,6 @@ visits-after-moves (d ∷ ds) c t = by (eqb c d) (visits-after-moves ds d (suc t
     by true e = e
     by false e = ap suc e
 
--- how many visits a path has
-pub visit-count : (c : ℕ) (cs : List ℕ) → length (visits-of (c ∷ cs)) ≡ suc (moves (c ∷ cs))
-unfolding visits-of moves
-visit-count c cs = ap suc (visits-after-moves cs c 1)
-
 -- the points of a path
 abbrev pub path-points : List ℕ → ℕ
 path-points q = length (points (visits-of q))
@@ -243,7 +238,7 @@ route-orders p j m =
 
 -- ---- other carts counted along the row of all visits
 
--- the visits of v's own cart, and those of the cart counted last, are passed over
+-- the visits of v's own cart are passed over
 pass-own : (v : Stop) (k n : ℕ) (vs : List Visit) (rest : List Stop) → eqb (v .cart) n ≡ true → later-carts v k (map (stop n) vs ++ rest) ≡ later-carts v k rest
 unfolding later-carts counted stop
 pass-own v k n [] rest e = refl
@@ -251,6 +246,7 @@ pass-own v k n (x ∷ xs) rest e =
     ap (λ (b : Bool). cond (not b && not (eqb k n) && (ltb (v .step) (x .step) && eqb (v .cell) (x .cell))) (suc (later-carts v n (map (stop n) xs ++ rest))) (later-carts v k (map (stop n) xs ++ rest))) e
     ∙ pass-own v k n xs rest e
 
+-- so are those of the cart counted last
 pass-counted : (v : Stop) (n : ℕ) (vs : List Visit) (rest : List Stop) → later-carts v n (map (stop n) vs ++ rest) ≡ later-carts v n rest
 unfolding later-carts counted stop
 pass-counted v n [] rest = refl
@@ -369,11 +365,12 @@ orders-are p h =
 
 -- ---- all bounds
 
--- one start bound and one finish bound for each route
+-- one start bound for each route
 start-count : (rs : List Route) → length (start-bounds rs) ≡ length rs
 unfolding start-bounds
 start-count rs = length-map rs (λ (r : Route). record { from = 0; to = r .first; lo = 0; hi = some 0 })
 
+-- and one finish bound
 finish-count : (f : ℕ) (rs : List Route) → length (finish-bounds f rs) ≡ length rs
 unfolding finish-bounds
 finish-count f rs = length-map rs (λ (r : Route). no-earlier (last-event r) f)
