@@ -6,12 +6,12 @@ use native.Mathlib.Numerals.{add-one}
 use native.Mathlib.Omega.{arith}
 use mathlib.Core.Path.{_≡_, refl, ap, sym, _∙_, subst}
 use mathlib.Core.Logic.{_≢_, ⊎-elim}
-use mathlib.Core.Bool.{Bool, true, false, not, _&&_, cond, and-false}
-use mathlib.Core.List.{List, [], _∷_}
+use mathlib.Core.Bool.{Bool, true, false, not, _&&_, cond}
+use mathlib.Core.List.{List, _∷_}
 use lib.Dec.{ltb, eqb}
 use lib.ListN.{length, getD, set}
 use lib.Seq.{getD-set-same, getD-set-other}
-use borrow.Author.Tests.{eqb-true, eqb-false, eq-eqb, ne-eqb}
+use borrow.Author.Tests.{eqb-true, eqb-false, ne-eqb}
 use Rattle.network.specs.Counts.{Stop, counted, later-carts, stop-at, stops-in, left-in, Linked}
 use Rattle.network.proofs.CountSteps.{later-yes, later-no}
 
@@ -83,8 +83,9 @@ pub none-linked : (cells heads nexts : List ℕ) (n : ℕ) → ((b : ℕ) → b 
 unfolding left-in
 none-linked cells heads nexts n h = record { heads-are = h; nexts-are = λ l k. absurd (omega arith) }
 
--- one more, before those that are: its place and its remainder
+-- one more, before those that are
 module _ (cells heads nexts : List ℕ) (n left : ℕ) (k : Linked cells heads nexts n left) (l : left < n) where
+  -- the first of each remainder
   first-of : (r : ℕ) → getD cells (n - suc left) 0 % 1024 ≡ r → r < length heads
       → (b : ℕ) → b < 1024 → getD (set heads r (suc left)) b 0 ≡ left-in cells b (suc left) (n - suc left)
   unfolding left-in
@@ -100,6 +101,7 @@ module _ (cells heads nexts : List ℕ) (n left : ℕ) (k : Linked cells heads n
           let next : n - left ≡ suc (n - suc left) = omega arith in
           getD-set-other heads r b (suc left) 0 other ∙ k .heads-are b h ∙ ap (λ (m : ℕ). left-in cells b left m) next
 
+  -- the next to each
   next-of : (r : ℕ) → getD cells (n - suc left) 0 % 1024 ≡ r → r < 1024 → n ≤ length nexts
       → (m : ℕ) → m < suc left → getD (set nexts (n - suc left) (getD heads r 0)) (n - suc m) 0 ≡ left-in cells (getD cells (n - suc m) 0 % 1024) m (n - m)
   next-of r q small room m h = ⊎-elim here there (eq-or-lt-of-le h)
@@ -118,10 +120,12 @@ module _ (cells heads nexts : List ℕ) (n left : ℕ) (k : Linked cells heads n
           let other : n - suc m ≢ n - suc left = λ s. omega arith in
           getD-set-other nexts (n - suc left) (n - suc m) (getD heads r 0) 0 other ∙ k .nexts-are m (omega arith)
 
+  -- both
   one-linked-suc : (r : ℕ) → getD cells (n - suc left) 0 % 1024 ≡ r → r < 1024 → r < length heads → n ≤ length nexts
       → Linked cells (set heads r (suc left)) (set nexts (n - suc left) (getD heads r 0)) n (suc left)
   one-linked-suc r q small wide room = record { heads-are = first-of r q wide; nexts-are = next-of r q small room }
 
+  -- the same, as the code counts
   pub one-linked : (r : ℕ) → getD cells (n - (left + 1)) 0 % 1024 ≡ r → r < 1024 → r < length heads → n ≤ length nexts
       → Linked cells (set heads r (left + 1)) (set nexts (n - (left + 1)) (getD heads r 0)) n (left + 1)
   one-linked r =
@@ -184,13 +188,14 @@ module _ (numbers times cells heads nexts : List ℕ) (n : ℕ) (k : Linked cell
       pub walk-goes : (next < left) × (0 < next → getD cells (n - next) 0 % 1024 ≡ v .cell % 1024)
       walk-goes = let (l, r, _) = walk-next (n - left) (omega arith) same next e in (omega (arith, l), r)
 
-      -- the visit at hand is counted, or not
+      -- the visit at hand is counted
       pub walk-counts : (m : ℕ) → counted v m (stop-at numbers times cells (n - left)) ≡ true
           → later-carts v m (stops-in numbers times cells left (n - left)) ≡ suc (later-carts v (getD numbers (n - left) 0) (stops-in numbers times cells next (n - next)))
       walk-counts m q =
           let (_, _, skip) = walk-next (n - left) (omega arith) same next e in
           at-hand m ∙ later-yes numbers times cells v m n (n - left) (omega arith) q ∙ ap suc (skip (getD numbers (n - left) 0))
 
+      -- or not
       pub walk-passes : (m : ℕ) → counted v m (stop-at numbers times cells (n - left)) ≡ false
           → later-carts v m (stops-in numbers times cells left (n - left)) ≡ later-carts v m (stops-in numbers times cells next (n - next))
       walk-passes m q =

@@ -7,11 +7,6 @@ use Rattle.network.specs.Counts.{orders-among}
 use borrow.Author.Needs.{needs}
 use Rattle.network.proofs.count.all_orders.Statement.{statement}
 use Rattle.network.proofs.count.all_orders.Tie as tie
-use Rattle.network.proofs.count.all_orders.Reads as reads
-use Rattle.network.proofs.count.all_orders.Lts as lts
-use Rattle.network.proofs.count.link.Reads as link-reads
-use Rattle.network.proofs.count.orders_among.Reads as orders-among-reads
-use Rattle.network.proofs.count.put_all.Reads as put-all-reads
 
 slice-aggregate-put-all : tie.Need-slice-aggregate-put-all
 slice-aggregate-put-all c = search needs

@@ -1,16 +1,13 @@
 -- `network::count::link` meets its contract. The loop's invariant: the last `left` visits are linked. Assumes nothing.
-use Prim.Native.Nat.{ℕ, zero, suc, _+_, _%_, _≤_, _<_, _-_}
-use native.Mathlib.Nat.{mod-lt}
+use Prim.Native.Nat.{ℕ, _+_, _%_, _≤_, _-_}
 use native.Mathlib.Omega.{arith}
-use mathlib.Core.Path.{_≡_, refl, ap, sym, _∙_, subst}
+use mathlib.Core.Path.{_≡_, refl, _∙_, subst}
 use borrow.Author.Needs.{needs}
 use lib.ListN.{length, getD, length-set}
 use Rattle.network.specs.Counts.{Linked}
 use Rattle.network.proofs.Links.{none-linked, one-linked}
 use Rattle.network.proofs.count.link.Statement.{statement}
 use Rattle.network.proofs.count.link.Tie as tie
-use Rattle.network.proofs.count.link.Reads as reads
-use Rattle.network.proofs.count.link.Lts as lts
 
 abbrev Inv-loop : tie.InvT-loop
 Inv-loop places n heads₀ nexts₀ left₀ heads nexts left =

@@ -2,18 +2,14 @@
 -- Assumes nothing.
 use Prim.Native.Nat.{ℕ, _+_, _*_, _≤_, _<_, _-_}
 use native.Mathlib.Omega.{arith}
-use mathlib.Core.Path.{_≡_, refl, ap, sym, _∙_}
+use mathlib.Core.Path.{_≡_, ap}
 use mathlib.Core.List.{List}
 use mathlib.Core.Logic.{⊎-elim}
 use borrow.Author.Needs.{needs}
-use lib.ListN.{length, getD}
 use Rattle.network.specs.Counts.{Stop, later-carts, orders-from, orders-among, stop-at, stops-in}
 use Rattle.network.proofs.CountSteps.{later-most, orders-more, orders-same, orders-none}
 use Rattle.network.proofs.count.orders_among.Statement.{statement}
 use Rattle.network.proofs.count.orders_among.Tie as tie
-use Rattle.network.proofs.count.orders_among.Reads as reads
-use Rattle.network.proofs.count.orders_among.Lts as lts
-use Rattle.network.proofs.count.others_later.Reads as others-later-reads
 
 abbrev Inv-loop : tie.InvT-loop
 Inv-loop numbers times places heads nexts n sum₀ v₀ sum v =

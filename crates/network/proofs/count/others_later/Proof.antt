@@ -6,14 +6,11 @@ use mathlib.Core.Path.{_≡_, refl, ap, sym, _∙_}
 use mathlib.Core.Logic.{⊎-elim}
 use mathlib.Core.List.{List}
 use borrow.Author.Needs.{needs}
-use lib.ListN.{length, getD}
+use lib.ListN.{getD}
 use Rattle.network.specs.Counts.{Stop, counted, later-carts, stop-at, stops-in}
 use Rattle.network.proofs.Links.{walk-begins, walk-goes, walk-counts, walk-passes}
 use Rattle.network.proofs.count.others_later.Statement.{statement}
 use Rattle.network.proofs.count.others_later.Tie as tie
-use Rattle.network.proofs.count.others_later.Reads as reads
-use Rattle.network.proofs.count.others_later.Lts as lts
-use Rattle.network.proofs.count.is_counted.Reads as is-counted-reads
 
 abbrev Inv-loop : tie.InvT-loop
 Inv-loop numbers times places heads nexts n v j t c k₀ count₀ left₀ k count left =
