@@ -182,9 +182,10 @@ module _ (r c p e s k : List ℕ) where
       (ap (λ (b : Bool). elim b as (λ _. Outcome) [ false ↦ record { answer = Reading.TooShort; arrays = arrays } | true ↦ record { answer = read-answer (read-tables ts); arrays = arrays-judged arrays (read-tables ts) } ]) h)
 
   module _ (has : room arrays ≡ true) where
-    judged : (j : Judged Plan) → read-tables ts ≡ j → read-into r c p e s k ≡ record { answer = read-answer j; arrays = arrays-judged arrays j }
+    -- what a judgement says is answered, and left in the arrays
+    pub into-judged : (j : Judged Plan) → read-tables ts ≡ j → read-into r c p e s k ≡ record { answer = read-answer j; arrays = arrays-judged arrays j }
     unfolding read-into reading
-    judged j q =
+    into-judged j q =
         ap (λ (b : Bool). elim b as (λ _. Outcome) [ false ↦ record { answer = Reading.TooShort; arrays = arrays } | true ↦ record { answer = read-answer (read-tables ts); arrays = arrays-judged arrays (read-tables ts) } ]) has
         ∙ ap (λ (x : Judged Plan). record { answer = read-answer x; arrays = arrays-judged arrays x }) q
 
@@ -193,7 +194,7 @@ module _ (r c p e s k : List ℕ) where
         → edges ≡ replicate (length e) 0 → speeds ≡ replicate (length s) 0 → cells ≡ replicate (length k) 0 → Into (Reading.Refused why) edges speeds cells
     unfolding read-answer arrays-judged zeros
     into-refused why q edges speeds cells x y z =
-        let (a, (b, (d, f))) = parts _ (judged (refused why) q) in (a, (x ∙ b, (y ∙ d, z ∙ f)))
+        let (a, (b, (d, f))) = parts _ (into-judged (refused why) q) in (a, (x ∙ b, (y ∙ d, z ∙ f)))
 
     -- a plan, and its numbers
     pub into-read : (plan : Plan) → read-tables ts ≡ accepted plan → (answer : Reading) → answer ≡ read-answer (accepted plan) → (edges speeds cells : List ℕ)
@@ -201,7 +202,7 @@ module _ (r c p e s k : List ℕ) where
         → cells ≡ padded (length k) (path-cells (plan .paths)) → Into answer edges speeds cells
     unfolding arrays-judged numbers-of
     into-read plan q answer said edges speeds cells x y z =
-        let (a, (b, (d, f))) = parts _ (judged (accepted plan) q) in (said ∙ a, (x ∙ b, (y ∙ d, z ∙ f)))
+        let (a, (b, (d, f))) = parts _ (into-judged (accepted plan) q) in (said ∙ a, (x ∙ b, (y ∙ d, z ∙ f)))
 
 -- the room that is asked for
 pub room-for : (e s k : List ℕ) → 4096 ≤ length e → 128 ≤ length s → 8192 ≤ length k → room (record { roads = e; carts = s; cells = k }) ≡ true
