@@ -10,17 +10,17 @@ use Rattle.words.specs.Words.{padded}
 use Rattle.floor.specs.declared.Reason.the-variants.{Limit}
 use Rattle.floor.specs.declared.Table.the-variants.{Paths}
 use Rattle.floor.specs.declared.Refusal.{Refusal}
-use Rattle.floor.specs.declared.Reading.{Reading}
+use Rattle.tables.specs.declared.Reading.{Reading}
 use Rattle.floor.specs.Refusal.{Judged, refused, accepted}
 use Rattle.floor.specs.Plan.{Plan}
 use Rattle.floor.specs.Tables.{Tables, read-tables}
-use Rattle.floor.specs.Arrays.{path-cells}
-use Rattle.floor.specs.Reading.{Outcome, read-answer, arrays-judged, numbers-of, read-into}
+use Rattle.tables.specs.Arrays.{path-cells}
+use Rattle.tables.specs.Reading.{Outcome, read-answer, arrays-judged, numbers-of, read-into}
 use Rattle.floor.proofs.Judging.{goes-on, ends}
-use Rattle.floor.proofs.TablesRead.{answer-refused, answer-read, answer-short, into-judged, room-for}
+use Rattle.tables.proofs.TablesRead.{answer-refused, answer-read, answer-short, into-judged, room-for}
 use Rattle.network.specs.Judge.{within-limits, judge}
-use Rattle.network.specs.Limits.{limits-kept, paths-within}
-use Rattle.network.proofs.Kept.{within-kept, within-over, paths-within-is}
+use Rattle.limits.specs.Limits.{limits-kept, paths-within}
+use Rattle.limits.proofs.Kept.{within-kept, within-over, paths-within-is}
 use Rattle.hegtalim.specs.declared.Loaded.{Loaded}
 use Rattle.hegtalim.specs.PlanSlice.{plan-slice}
 use Rattle.hegtalim.specs.Outcomes.{Load, load-judged, load}

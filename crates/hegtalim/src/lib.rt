@@ -1,8 +1,8 @@
 // The calls on a plan. The definitions of what they answer and leave are in specs/.
-use floor::Reading;
 use floor::Reason;
 use floor::Refusal;
 use floor::Table;
+use tables::Reading;
 ghost use mathlib.Core.Path.{_≡_};
 ghost use mathlib.Core.List.{[]};
 ghost use Prim.Native.Nat.{_≤_};
@@ -77,7 +77,7 @@ fn judge_tables(roads: &[u8], carts: &[u8], paths: &[u8]) -> Loaded
     let mut edges = [0u32; 4096];
     let mut speeds = [0u32; 128];
     let mut cells = [0u32; 8192];
-    let x = floor::read_tables(roads, carts, paths, &mut edges, &mut speeds, &mut cells);
+    let x = tables::read_tables(roads, carts, paths, &mut edges, &mut speeds, &mut cells);
     match x {
         Reading::Refused(why) => Loaded::Refused(why),
         Reading::TooShort => Loaded::TooShort,
@@ -86,7 +86,7 @@ fn judge_tables(roads: &[u8], carts: &[u8], paths: &[u8]) -> Loaded
             carts: n,
             steps: w,
         } => {
-            if network::within_limits(&cells, n, w) {
+            if limits::within_limits(&cells, n, w) {
                 return Loaded::Held;
             }
             Loaded::Refused(Refusal {
