@@ -7,7 +7,12 @@ ghost use mathlib.Core.Path.{_≡_};
 ghost use mathlib.Core.List.{[]};
 ghost use Prim.Native.Nat.{_≤_};
 ghost use lib.ListN.{length, replicate};
-ghost use Rattle.words.specs.Words.{written};
+ghost use Rattle.words.specs.Words.{written, padded};
+ghost use Rattle.floor.specs.Refusal.{accepted};
+ghost use Rattle.floor.specs.Plan.{Plan};
+ghost use Rattle.floor.specs.Tables.{read-tables};
+ghost use Rattle.tables.specs.Arrays.{path-cells};
+ghost use Rattle.tables.specs.Reading.{read-answer};
 ghost use Rattle.network.specs.Judge.{judge};
 ghost use Rattle.hegtalim.specs.PlanSlice.{plan-slice};
 ghost use Rattle.hegtalim.specs.Outcomes.{load-judged, load};
@@ -70,14 +75,23 @@ fn store_tables(roads: &[u8], carts: &[u8], paths: &[u8], plan: &mut [u8])
     write_front(paths, &mut plan[131_072..]);
 }
 
+// Reads the tables and leaves the cells of the paths. The other arrays go with this call, so that no more memory is held than is needed.
+fn read_cells(roads: &[u8], carts: &[u8], paths: &[u8], cells: &mut [u32]) -> Reading
+    requires { ⌜ 8192 ≤ length (now cells) ⌝ }
+    ensures answer { λ r. ⌜ r ≡ read-answer (read-tables (record { roads = now (roads .entry); carts = now (carts .entry); paths = now (paths .entry) })) ⌝ }
+    ensures left { λ _. ⌜ ((p : Plan) → read-tables (record { roads = now (roads .entry); carts = now (carts .entry); paths = now (paths .entry) }) ≡ accepted p → now (cells .exit) ≡ padded (length (now (cells .entry))) (path-cells (p .paths))) ⌝ }
+{
+    let mut edges = [0u32; 4096];
+    let mut speeds = [0u32; 128];
+    tables::read_tables(roads, carts, paths, &mut edges, &mut speeds, cells)
+}
+
 // What is said of three tables.
 fn judge_tables(roads: &[u8], carts: &[u8], paths: &[u8]) -> Loaded
     ensures { λ r. ⌜ r ≡ load-judged (record { roads = now (roads .entry); carts = now (carts .entry); paths = now (paths .entry) }) 0 (judge (record { roads = now (roads .entry); carts = now (carts .entry); paths = now (paths .entry) })) .answer ⌝ }
 {
-    let mut edges = [0u32; 4096];
-    let mut speeds = [0u32; 128];
     let mut cells = [0u32; 8192];
-    let x = tables::read_tables(roads, carts, paths, &mut edges, &mut speeds, &mut cells);
+    let x = read_cells(roads, carts, paths, &mut cells);
     match x {
         Reading::Refused(why) => Loaded::Refused(why),
         Reading::TooShort => Loaded::TooShort,
