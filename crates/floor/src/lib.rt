@@ -8,7 +8,7 @@ ghost use mathlib.Core.Path.{_≡_};
 ghost use mathlib.Core.List.{List, flatMap};
 ghost use Prim.Native.Nat.{ℕ, _*_, _≤_};
 ghost use lib.ListN.{length, replicate};
-ghost use Rattle.floor.specs.Refusal.{accepted};
+ghost use Rattle.floor.specs.Refusal.{reason-number, table-number, accepted};
 ghost use Rattle.floor.specs.Plan.{Plan};
 ghost use Rattle.floor.specs.Tables.{read-tables};
 ghost use Rattle.floor.specs.Arrays.{road-numbers, cart-numbers, path-cells, roads-in, paths-in};
@@ -81,6 +81,34 @@ enum PathTaken {
 enum PathsRead {
     Read(usize, usize),
     Refused(Refusal),
+}
+
+// The number of a reason.
+pub fn reason_number(reason: Reason) -> u64
+    ensures { λ r. ⌜ r ≡ reason-number reason ⌝ }
+{
+    match reason {
+        Reason::Layout => 1,
+        Reason::Range => 2,
+        Reason::RoadPair => 3,
+        Reason::Limit => 4,
+        Reason::NoCarts => 5,
+        Reason::PathCount => 6,
+        Reason::OffRoad => 7,
+        Reason::SameCell => 8,
+        Reason::Exchange => 9,
+    }
+}
+
+// The number of a table.
+pub fn table_number(table: Table) -> u64
+    ensures { λ r. ⌜ r ≡ table-number table ⌝ }
+{
+    match table {
+        Table::Roads => 1,
+        Table::Carts => 2,
+        Table::Paths => 3,
+    }
 }
 
 // Zeros in every place.
