@@ -5,7 +5,7 @@ use floor::Table;
 use tables::Reading;
 ghost use mathlib.Core.Path.{_≡_};
 ghost use mathlib.Core.List.{[]};
-ghost use Prim.Native.Nat.{_≤_};
+ghost use Prim.Native.Nat.{_≤_, _<_};
 ghost use lib.ListN.{length, replicate};
 ghost use Rattle.words.specs.Words.{written, padded};
 ghost use Rattle.floor.specs.Refusal.{accepted};
@@ -14,6 +14,7 @@ ghost use Rattle.floor.specs.Tables.{read-tables};
 ghost use Rattle.tables.specs.Arrays.{path-cells};
 ghost use Rattle.tables.specs.Reading.{read-answer};
 ghost use Rattle.network.specs.Judge.{judge};
+ghost use Rattle.hegtalim.specs.Answers.{loaded-answer, c-number};
 ghost use Rattle.hegtalim.specs.PlanSlice.{plan-slice};
 ghost use Rattle.hegtalim.specs.Outcomes.{load-judged, load};
 
@@ -130,4 +131,31 @@ pub fn load(roads: &[u8], carts: &[u8], paths: &[u8], plan: &mut [u8]) -> Loaded
         Loaded::TooShort => Loaded::TooShort,
         Loaded::Refused(why) => Loaded::Refused(why),
     }
+}
+
+// The one number that a C function returns for a load's answer.
+fn loaded_number(x: Loaded) -> u64
+    requires { ⌜ loaded-answer x .value < 4294967296 ⌝ }
+    ensures { λ r. ⌜ r ≡ c-number (loaded-answer x) ⌝ }
+{
+    match x {
+        Loaded::Held => 0,
+        Loaded::TooShort => 14,
+        Loaded::Refused(why) => {
+            let reason = why.reason;
+            let table = why.table;
+            let row = why.row as u64;
+            floor::reason_number(reason) + 256 * floor::table_number(table) + 4_294_967_296 * row
+        }
+    }
+}
+
+// `load` for a program in C.
+#[no_mangle]
+pub extern "C" fn hegtalim_load(roads: &[u8], carts: &[u8], paths: &[u8], plan: &mut [u8]) -> u64
+    ensures answer { λ r. ⌜ r ≡ c-number (loaded-answer (load (record { roads = now (roads .entry); carts = now (carts .entry); paths = now (paths .entry) }) (now (plan .entry)) .answer)) ⌝ }
+    ensures left { λ _. ⌜ now (plan .exit) ≡ load (record { roads = now (roads .entry); carts = now (carts .entry); paths = now (paths .entry) }) (now (plan .entry)) .plan ⌝ }
+{
+    let x = load(roads, carts, paths, plan);
+    loaded_number(x)
 }

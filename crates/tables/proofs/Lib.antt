@@ -7,3 +7,4 @@ pub mod PathTurns
 pub mod Searches
 pub mod Found
 pub mod TablesRead
+pub mod RefusalRows
