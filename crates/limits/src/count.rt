@@ -53,10 +53,10 @@ fn put_visits(
     cells: &[u32],
     at: usize,
     steps: usize,
-    j: u32,
+    j: u16,
     n: usize,
-    numbers: &mut [u32],
-    times: &mut [u32],
+    numbers: &mut [u16],
+    times: &mut [u16],
     places: &mut [u32],
 ) -> usize
     requires { ⌜ (1 ≤ steps) × (steps ≤ 1024) × (at + steps ≤ length (now cells)) ⌝ }
@@ -77,7 +77,7 @@ fn put_visits(
         let d = cells[at + s];
         if c != d {
             numbers[m] = j;
-            times[m] = s as u32;
+            times[m] = s as u16;
             places[m] = d;
             m += 1;
         }
@@ -92,8 +92,8 @@ fn put_all(
     cells: &[u32],
     carts: usize,
     steps: usize,
-    numbers: &mut [u32],
-    times: &mut [u32],
+    numbers: &mut [u16],
+    times: &mut [u16],
     places: &mut [u32],
 ) -> usize
     requires { ⌜ (carts ≤ 64) × (1 ≤ steps) × (steps ≤ 1024) × (carts * steps ≤ length (now cells)) ⌝ }
@@ -108,7 +108,7 @@ fn put_all(
     let mut at: usize = 0;
     while i < carts {
         let j = i + 1;
-        n = put_visits(cells, at, steps, j as u32, n, numbers, times, places);
+        n = put_visits(cells, at, steps, j as u16, n, numbers, times, places);
         at += steps;
         i = j;
     }
@@ -116,7 +116,7 @@ fn put_all(
 }
 
 // Whether a visit of cart i at step s to cell x is later than one of cart j at step t, to the same cell c, and by a cart that is neither j nor k.
-fn is_counted(j: u32, t: u32, c: u32, k: u32, i: u32, s: u32, x: u32) -> bool
+fn is_counted(j: u16, t: u16, c: u32, k: u16, i: u16, s: u16, x: u32) -> bool
     ensures { λ r. ⌜ r ≡ counted (record { cart = j; step = t; cell = c }) k (record { cart = i; step = s; cell = x }) ⌝ }
 {
     if j == i {
@@ -132,7 +132,7 @@ fn is_counted(j: u32, t: u32, c: u32, k: u32, i: u32, s: u32, x: u32) -> bool
 }
 
 // Links n visits: to each the next whose cell has the same remainder.
-fn link(places: &[u32], n: usize, heads: &mut [u32], nexts: &mut [u32])
+fn link(places: &[u32], n: usize, heads: &mut [u16], nexts: &mut [u16])
     requires { ⌜ (n ≤ 1408) × (length (now places) ≡ 1408) × (length (now heads) ≡ 1024) × (length (now nexts) ≡ 1408) ⌝ }
     requires { ⌜ ((b : ℕ) → b < 1024 → getD (now heads) b 0 ≡ 0) ⌝ }
     ensures { λ _. ⌜ Linked (now (places .entry)) (now (heads .exit)) (now (nexts .exit)) n n ⌝ }
@@ -143,17 +143,17 @@ fn link(places: &[u32], n: usize, heads: &mut [u32], nexts: &mut [u32])
         let u = n - left;
         let b = (places[u] % 1024) as usize;
         nexts[u] = heads[b];
-        heads[b] = left as u32;
+        heads[b] = left as u16;
     }
 }
 
 // How many other carts visit the cell of visit v later. The visits of its remainder are gone through.
 fn others_later(
-    numbers: &[u32],
-    times: &[u32],
+    numbers: &[u16],
+    times: &[u16],
     places: &[u32],
-    heads: &[u32],
-    nexts: &[u32],
+    heads: &[u16],
+    nexts: &[u16],
     n: usize,
     v: usize,
 ) -> usize
@@ -166,7 +166,7 @@ fn others_later(
     let j = numbers[v];
     let t = times[v];
     let c = places[v];
-    let mut k: u32 = 0;
+    let mut k: u16 = 0;
     let mut count: usize = 0;
     let mut left = heads[(c % 1024) as usize] as usize;
     while 0 < left {
@@ -183,11 +183,11 @@ fn others_later(
 
 // How many order bounds there are among n visits.
 fn orders_among(
-    numbers: &[u32],
-    times: &[u32],
+    numbers: &[u16],
+    times: &[u16],
     places: &[u32],
-    heads: &[u32],
-    nexts: &[u32],
+    heads: &[u16],
+    nexts: &[u16],
     n: usize,
 ) -> usize
     requires { ⌜ n ≤ 1408 ⌝ }
@@ -214,12 +214,12 @@ pub(crate) fn all_orders(cells: &[u32], carts: usize, steps: usize) -> usize
     ensures { λ r. ⌜ r ≡ orders-among (stops 1 (paths-in carts steps (now (cells .entry)))) ⌝ }
     ensures { λ r. ⌜ r ≤ 2000000 ⌝ }
 {
-    let mut numbers: [u32; 1408] = [0; 1408];
-    let mut times: [u32; 1408] = [0; 1408];
+    let mut numbers: [u16; 1408] = [0; 1408];
+    let mut times: [u16; 1408] = [0; 1408];
     let mut places: [u32; 1408] = [0; 1408];
     let n = put_all(cells, carts, steps, &mut numbers, &mut times, &mut places);
-    let mut heads: [u32; 1024] = [0; 1024];
-    let mut nexts: [u32; 1408] = [0; 1408];
+    let mut heads: [u16; 1024] = [0; 1024];
+    let mut nexts: [u16; 1408] = [0; 1408];
     link(&places, n, &mut heads, &mut nexts);
     orders_among(&numbers, &times, &places, &heads, &nexts, n)
 }
