@@ -128,7 +128,7 @@ one-cart-more before r c h one =
     (each-more SoundCart before c (h .0) good, omega (arith, length-append before (c ∷ []), few))
 
 -- of the whole table, which has a cart
-read-carts-sound : (b : List ℕ) (cs : List Cart) → read-carts b ≡ accepted cs → Each SoundCart cs × (length cs ≤ 64) × (1 ≤ length cs)
+pub read-carts-sound : (b : List ℕ) (cs : List Cart) → read-carts b ≡ accepted cs → Each SoundCart cs × (length cs ≤ 64) × (1 ≤ length cs)
 unfolding read-carts
 read-carts-sound b cs e =
     let (_, _, e1) = bind-accepted (within-bytes Carts b) _ cs e in
@@ -360,3 +360,15 @@ accepted-sound ts p e =
       on-the-roads = none-off-road rs 1 ps on;
       apart = none-meet ps alone;
     })
+
+-- its paths are of one width, and within the limits of steps and cells
+pub accepted-even : (ts : Tables) (p : Plan) → read-tables ts ≡ accepted p → Even (p .paths)
+unfolding read-tables
+accepted-even ts p e =
+    let (rs, _, e1) = bind-accepted (read-roads (ts .roads)) _ p e in
+    let (cs, _, e2) = bind-accepted (read-carts (ts .carts)) _ p e1 in
+    let (ps, ep, e3) = bind-accepted (read-paths (length cs) (ts .paths)) _ p e2 in
+    let (_, e4) = none-found-accepted (off-road rs 1 ps) OffRoad _ p e3 in
+    let (_, e5) = none-found-accepted (first-same-cell ps) SameCell _ p e4 in
+    let (_, e6) = none-found-accepted (first-exchange ps) Exchange _ p e5 in
+    subst (λ (x : Plan). Even (x .paths)) (accepted-same (record { roads = rs; carts = cs; paths = ps }) p e6) (read-paths-sound (length cs) (ts .paths) ps ep .0)

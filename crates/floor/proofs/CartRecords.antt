@@ -31,8 +31,8 @@ use Rattle.floor.specs.Arrays.{cart-numbers, carts-in}
 use Rattle.floor.specs.Reading.{taken, stored, counted, speeds, speeds-of}
 use Rattle.floor.proofs.Judging.{pass, stop, goes-on, ends}
 use Rattle.floor.proofs.Accepted.{cart-sound}
-use Rattle.floor.proofs.FirstLine.{at-none, bytes-over, bytes-within, line-other, line-there, counted-read, counted-refused, refused-ends}
-use Rattle.floor.proofs.Turns.{Says, says-need, says-given, left-refused, left-taken, refused-there, accepted-there, flat-length, Turn, Ends, refused-turn, taken-turn}
+use Rattle.floor.proofs.FirstLine.{at-none, bytes-over, bytes-within, line-other, line-there, counted-read, counted-refused}
+use Rattle.floor.proofs.Turns.{Says, says-need, says-given, left-refused, left-taken, refused-there, accepted-there, flat-length, Turn, Ends, refused-ends, refused-turn, taken-turn}
 
 -- ---- the speeds of a record
 

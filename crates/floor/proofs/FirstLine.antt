@@ -19,8 +19,6 @@ use Rattle.floor.specs.declared.Refusal.{Refusal}
 use Rattle.floor.specs.declared.Count.{Count}
 use Rattle.floor.specs.Refusal.{Judged, refused, accepted, _>>=_, need, within-bytes, after-first-line}
 use Rattle.floor.specs.Reading.{counted}
-use Rattle.floor.proofs.Judging.{refused-not-accepted}
-use Rattle.floor.proofs.Turns.{Ends}
 
 -- a refusal at record 0
 abbrev pub at-none : Table → Reason → Refusal
@@ -82,9 +80,3 @@ pub counted-refused : {A : Type 0} (j : Judged (List A)) (r : Refusal) → Count
 unfolding counted refusal-of reads
 counted-refused (refused q) r e = ap refused (sym (ap (refusal-of r) e))
 counted-refused (accepted as′) r e = absurd (subst T (sym (ap reads e)) tt)
-
--- a table that is refused leaves what it leaves
-pub refused-ends : {A : Type 0} (judge : List A → List ℕ → Judged A) (numbers : A → List ℕ) (whole : Judged (List A)) (size : ℕ) (s : List ℕ) (r : Refusal)
-    → whole ≡ refused r → Ends judge numbers whole size (Count.Refused r) s
-unfolding counted
-refused-ends judge numbers whole size s r e = (sym (ap counted e), λ as′ f. absurd (refused-not-accepted r as′ (sym e ∙ f)))

@@ -1,19 +1,17 @@
 -- What the searches for refusals 7, 8 and 9 answer: a record, which counts from 1, or 0 where there is none. Assumes nothing.
 use Prim.Native.Nat.{ℕ, zero, suc, _<_}
 use native.Mathlib.Omega.{arith}
-use mathlib.Core.Path.{_≡_, refl, ap, _∙_}
+use mathlib.Core.Path.{_≡_, refl, _∙_}
 use mathlib.Core.Bool.{Bool, true, false, cond}
 use mathlib.Core.List.{List, [], _∷_, _++_}
 use mathlib.Core.Option.{Option, none, some}
-use lib.ListN.{length, drop}
 use Rattle.floor.specs.declared.Reason.the-variants.{OffRoad, SameCell, Exchange}
 use Rattle.floor.specs.declared.Table.the-variants.{Paths}
 use Rattle.floor.specs.Refusal.{refused, accepted, next}
 use Rattle.floor.specs.Plan.{Road}
 use Rattle.floor.specs.Paths.{on-roads, off-road, collides, first-collision, earliest, same-cell, exchange, first-same-cell, first-exchange, steps}
-use Rattle.floor.specs.Arrays.{paths-in}
 use Rattle.floor.specs.Reading.{found, apart}
-use Rattle.floor.proofs.Judging.{clear, meets}
+use Rattle.floor.proofs.Judging.{clear, meets, none-found-accepted, accepted-same}
 
 -- a record that is found counts from 1
 abbrev pub FromOne : Option ℕ → Type 0
@@ -62,12 +60,6 @@ earliest-from f h s (suc n) = by (f s) (h s) (earliest-from f h (suc s) n)
     by none one more = more
     by (some i) one more = one
 
--- as many paths as were asked for
-pub paths-in-length : (n w : ℕ) (s : List ℕ) → length (paths-in n w s) ≡ n
-unfolding paths-in
-paths-in-length zero w s = refl
-paths-in-length (suc n) w s = ap suc (paths-in-length n w (drop w s))
-
 module _ (rs : List Road) (ps : List (List ℕ)) where
   off-from : FromOne (off-road rs 1 ps)
   off-from = off-road-from rs 1 ps (omega arith)
@@ -79,6 +71,15 @@ module _ (rs : List Road) (ps : List (List ℕ)) where
   exchange-from : FromOne (first-exchange ps)
   unfolding first-exchange exchange
   exchange-from = earliest-from (exchange ps) (λ s. collision-from _ [] _) 0 _
+
+  -- what is kept is what was there
+  pub apart-are : (qs : List (List ℕ)) → apart rs ps ≡ accepted qs → ps ≡ qs
+  unfolding apart
+  apart-are qs e =
+      let (_, e1) = none-found-accepted (off-road rs 1 ps) OffRoad _ qs e in
+      let (_, e2) = none-found-accepted (first-same-cell ps) SameCell _ qs e1 in
+      let (_, e3) = none-found-accepted (first-exchange ps) Exchange _ qs e2 in
+      accepted-same ps qs e3
 
   -- a path off the roads
   pub apart-off : (found (off-road rs 1 ps) ≡ 0 → ⊥) → apart rs ps ≡ refused (record { reason = OffRoad; table = Paths; row = found (off-road rs 1 ps) })

@@ -115,9 +115,9 @@ abbrev pub PathsEnd : Judged (List (List ℕ)) → ℕ → PathsRead → List �
 PathsEnd whole size r s = (r ≡ paths-read whole) × ((ps : List (List ℕ)) → whole ≡ accepted ps → s ≡ padded size (path-cells ps))
 
 -- an array is free after a refusal
-pub refused-ends : (whole : Judged (List (List ℕ))) (size : ℕ) (s : List ℕ) (r : Refusal) → whole ≡ refused r → PathsEnd whole size (PathsRead.Refused r) s
+pub refused-paths-end : (whole : Judged (List (List ℕ))) (size : ℕ) (s : List ℕ) (r : Refusal) → whole ≡ refused r → PathsEnd whole size (PathsRead.Refused r) s
 unfolding paths-read
-refused-ends whole size s r e = (sym (ap paths-read e), λ ps f. absurd (refused-not-accepted r ps (sym e ∙ f)))
+refused-paths-end whole size s r e = (sym (ap paths-read e), λ ps f. absurd (refused-not-accepted r ps (sym e ∙ f)))
 
 module _ (whole : Judged (List (List ℕ))) (t : List ℕ) (size : ℕ) (s : List ℕ) (at n w : ℕ) (u : PathTurn whole t size s at n w) where
   -- the paths before have room
@@ -155,7 +155,7 @@ module _ (whole : Judged (List (List ℕ))) (t : List ℕ) (size : ℕ) (s : Lis
         let j : path (u .turn .before) (first-record (drop at t)) ≡ refused (record { reason = why; table = Paths; row = n + 1 }) =
         path-refused-there (suc (length (u .turn .before))) _ why (path-says (u .turn .before) (first-record (drop at t))) (rw (this-row, ← turn-paths) e)
         ∙ ap (λ (k : ℕ). refused (record { reason = why; table = Paths; row = k })) (ap suc (u .turn .count) ∙ sym (add-one n)) in
-        refused-ends whole size s′ _ (whole-refused path (λ (p : List ℕ). p) whole t size s at n (u .turn) here _ j)
+        refused-paths-end whole size s′ _ (whole-refused path (λ (p : List ℕ). p) whole t size s at n (u .turn) here _ j)
 
     -- taken, it goes before the next
     pub taken-path-turn : (m : ℕ) (s′ : List ℕ) → 8192 ≤ size → PathTaken.Kept m ≡ path-taken (path (paths-in n w s) row)
@@ -213,7 +213,7 @@ module _ (carts : ℕ) (b : List ℕ) (size : ℕ) (s : List ℕ) where
   -- too many bytes
   pub table-long : 65536 < length b → PathsEnd (read-paths carts b) size (PathsRead.Refused (record { reason = Limit; table = Paths; row = 0 })) s
   unfolding read-paths within-bytes
-  table-long h = refused-ends (read-paths carts b) size s _ (stop (leb (length b) 65536) Limit Paths 0 _ (lt-leb _ _ h))
+  table-long h = refused-paths-end (read-paths carts b) size s _ (stop (leb (length b) 65536) Limit Paths 0 _ (lt-leb _ _ h))
 
   module _ (few : length b ≤ 65536) where
     -- the records, and then their count
@@ -231,14 +231,14 @@ module _ (carts : ℕ) (b : List ℕ) (size : ℕ) (s : List ℕ) where
       pub table-refused : (q : Refusal) → r ≡ PathsRead.Refused q → PathsEnd (read-paths carts b) size r s
       table-refused q e =
           subst (λ (x : PathsRead). PathsEnd (read-paths carts b) size x s) (sym e)
-          (refused-ends (read-paths carts b) size s q (table-is ∙ ends (records-in-order path [] (records b)) _ q (paths-refused _ q (sym e ∙ end .0))))
+          (refused-paths-end (read-paths carts b) size s q (table-is ∙ ends (records-in-order path [] (records b)) _ q (paths-refused _ q (sym e ∙ end .0))))
 
       module _ (n w : ℕ) (e : r ≡ PathsRead.Read n w) where
         -- not as many as carts
         pub table-other : (n ≡ carts → ⊥) → PathsEnd (read-paths carts b) size (PathsRead.Refused (record { reason = PathCount; table = Paths; row = 0 })) s
         table-other h =
             let (ps, all, count, _) = paths-answered _ n w (sym e ∙ end .0) in
-            refused-ends (read-paths carts b) size s _ (counted-is ps all ∙ stop (eqb (length ps) carts) PathCount Paths 0 _ (ne-eqb _ _ (λ q. h (count ∙ q))))
+            refused-paths-end (read-paths carts b) size s _ (counted-is ps all ∙ stop (eqb (length ps) carts) PathCount Paths 0 _ (ne-eqb _ _ (λ q. h (count ∙ q))))
 
         -- as many
         pub table-all : n ≡ carts → PathsEnd (read-paths carts b) size (PathsRead.Read n w) s

@@ -71,12 +71,13 @@ module _ (s : List ℕ) (at w : ℕ) (fits : at + w ≤ length s) where
   unfolding moves-after
   moves-none c t l = ap (moves-after c) (steps-none t l)
 
-  -- the same of visits
+  -- visits from step 1 on
   pub visits-first : 1 ≤ w
       → visits-of (take w (drop at s)) ≡ record { step = 0; cell = getD s at 0 } ∷ visits-after (getD s at 0) 1 (steps-from s at w 1)
   unfolding visits-of
   visits-first l = ap visits-of (path-cons l)
 
+  -- a wait is no visit
   pub visits-wait : (c t : ℕ) → t < w → c ≡ getD s (at + t) 0
       → visits-after c t (steps-from s at w t) ≡ visits-after (getD s (at + t) 0) (t + 1) (steps-from s at w (t + 1))
   unfolding visits-after
@@ -87,6 +88,7 @@ module _ (s : List ℕ) (at w : ℕ) (fits : at + w ≤ length s) where
       ∙ ap (λ (b : Bool). cond b rest (record { step = t; cell = d } ∷ rest)) (eq-eqb c d e)
       ∙ ap (λ (n : ℕ). visits-after d n (steps-from s at w (t + 1))) (sym (add-one t))
 
+  -- a move is one
   pub visits-move : (c t : ℕ) → t < w → (c ≡ getD s (at + t) 0 → ⊥)
       → visits-after c t (steps-from s at w t) ≡ record { step = t; cell = getD s (at + t) 0 } ∷ visits-after (getD s (at + t) 0) (t + 1) (steps-from s at w (t + 1))
   unfolding visits-after
@@ -97,6 +99,7 @@ module _ (s : List ℕ) (at w : ℕ) (fits : at + w ≤ length s) where
       ∙ ap (λ (b : Bool). cond b rest (record { step = t; cell = d } ∷ rest)) (ne-eqb c d e)
       ∙ ap (λ (n : ℕ). record { step = t; cell = d } ∷ visits-after d n (steps-from s at w (t + 1))) (sym (add-one t))
 
+  -- none after the last step
   pub visits-none : (c t : ℕ) → w ≤ t → visits-after c t (steps-from s at w t) ≡ []
   unfolding visits-after
   visits-none c t l = ap (visits-after c t) (steps-none t l)
@@ -113,6 +116,7 @@ moves-after-most (d ∷ ds) c = by (eqb c d) (moves-after-most ds d)
     by true h = omega arith
     by false h = omega arith
 
+-- of a path
 moves-most : (q : List ℕ) → moves q ≤ length q
 unfolding moves
 moves-most [] = omega arith
@@ -146,6 +150,7 @@ pub all-moves-cons : (n i w at : ℕ) (s : List ℕ) → i < n
 unfolding total
 all-moves-cons n i w at s l = ap (total moves) (paths-cons n i w at s l)
 
+-- no moves after the last path
 pub all-moves-none : (n i w : ℕ) (r : List ℕ) → n ≤ i → total moves (paths-in (n - i) w r) ≡ 0
 unfolding total
 all-moves-none n i w r l = ap (total moves) (paths-none n i w r l)
@@ -215,6 +220,7 @@ stops-path n i w at s l =
     ap (stops (i + 1)) (paths-cons n i w at s l)
     ∙ ap (λ (j : ℕ). map (stop (i + 1)) (visits-of (take w (drop at s))) ++ stops j (paths-in (n - (i + 1)) w (drop (at + w) s))) (sym (add-one (i + 1)))
 
+-- no visits after the last path
 pub stops-done : (n i w j : ℕ) (r : List ℕ) → n ≤ i → stops j (paths-in (n - i) w r) ≡ []
 unfolding stops
 stops-done n i w j r l = ap (stops j) (paths-none n i w r l)
@@ -229,11 +235,6 @@ module _ (ns ts cs : List ℕ) where
       let one : n - i ≡ suc (n - (i + 1)) = omega arith in
       ap (λ (m : ℕ). stops-in ns ts cs m i) one
       ∙ ap (λ (j : ℕ). stop-at ns ts cs i ∷ stops-in ns ts cs (n - (i + 1)) j) (sym (add-one i))
-
-  -- none after the last
-  stops-none : (n i : ℕ) → n ≤ i → stops-in ns ts cs (n - i) i ≡ []
-  unfolding stops-in
-  stops-none n i l = let none : n - i ≡ 0 = omega arith in ap (λ (m : ℕ). stops-in ns ts cs m i) none
 
   -- the visit at hand is counted
   pub later-yes : (v : Stop) (k n i : ℕ) → i < n → counted v k (stop-at ns ts cs i) ≡ true
@@ -252,10 +253,6 @@ module _ (ns ts cs : List ℕ) where
       let rest : List Stop = stops-in ns ts cs (n - (i + 1)) (i + 1) in
       ap (later-carts v k) (stops-cons n i l)
       ∙ ap (λ (b : Bool). cond b (suc (later-carts v (getD ns i 0) rest)) (later-carts v k rest)) e
-
-  pub later-none : (v : Stop) (k n i : ℕ) → n ≤ i → later-carts v k (stops-in ns ts cs (n - i) i) ≡ 0
-  unfolding later-carts
-  later-none v k n i l = ap (later-carts v k) (stops-none n i l)
 
   -- no more than there are
   pub later-most : (v : Stop) (k n i : ℕ) → later-carts v k (stops-in ns ts cs n i) ≤ n

@@ -1,18 +1,16 @@
 -- How many events and bounds there are goes by the paths alone, and is what `specs.Counts` counts. Assumes nothing.
-use Prim.Native.Nat.{ℕ, zero, suc, _+_, _*_, _≤_, _<_}
+use Prim.Native.Nat.{ℕ, zero, suc, _+_, _*_, _<_}
 use native.Mathlib.Omega.{arith}
 use mathlib.Core.Path.{_≡_, refl, ap, sym, _∙_}
-use mathlib.Core.Logic.{_≢_}
 use mathlib.Core.Bool.{Bool, true, false, not, _&&_, cond}
 use mathlib.Core.List.{List, [], _∷_, _++_, map, flatMap, List·Memᴰ, List·Memᴰ·head, List·Memᴰ·tail}
 use mathlib.Core.Option.{Option, none, some}
 use lib.Dec.{leb, ltb, eqb}
 use lib.ListN.{length, getD, length-append, length-map}
-use Rattle.laws.proofs.Members.{at-place}
-use Rattle.laws.proofs.Tests.{tells-apart, unequal-fails, equal-passes}
+use Rattle.laws.proofs.Tests.{unequal-fails, equal-passes}
 use Rattle.laws.proofs.Rising.{Rises, Rising, rises-first}
 use Rattle.floor.specs.Plan.{Road, Cart, Plan}
-use Rattle.network.specs.Events.{Visit, visits-after, visits-of, Kind, approach, leave, point, same-kind, find-point, points-after, points, Route, routes, routes-of, route-points, event-of, event-count, last-event, finish-event}
+use Rattle.network.specs.Events.{Visit, visits-after, visits-of, approach, leave, point, same-kind, find-point, points-after, points, Route, routes, routes-of, route-points, event-of, event-count, last-event, finish-event}
 use Rattle.network.specs.Bounds.{Bound, no-earlier, Part, route-parts, part-bounds, start-bounds, travel-bounds, first-later, between, order-bound, order-bounds-to, order-bounds, finish-bounds, bounds}
 use Rattle.network.specs.Limits.{of-paths, limits-kept}
 use Rattle.network.specs.Counts.{total, moves-after, moves, Stop, stop, stops, counted, later-carts, goes-on, orders-from, orders-among}
@@ -54,11 +52,6 @@ visits-after-moves (d ∷ ds) c t = by (eqb c d) (visits-after-moves ds d (suc t
         → length (cond b (visits-after d (suc t) ds) (record { step = t; cell = d } ∷ visits-after d (suc t) ds)) ≡ cond b (moves-after d ds) (suc (moves-after d ds))
     by true e = e
     by false e = ap suc e
-
--- how many visits a path has
-pub visit-count : (c : ℕ) (cs : List ℕ) → length (visits-of (c ∷ cs)) ≡ suc (moves (c ∷ cs))
-unfolding visits-of moves
-visit-count c cs = ap suc (visits-after-moves cs c 1)
 
 -- the points of a path
 abbrev pub path-points : List ℕ → ℕ
@@ -245,7 +238,7 @@ route-orders p j m =
 
 -- ---- other carts counted along the row of all visits
 
--- the visits of v's own cart, and those of the cart counted last, are passed over
+-- the visits of v's own cart are passed over
 pass-own : (v : Stop) (k n : ℕ) (vs : List Visit) (rest : List Stop) → eqb (v .cart) n ≡ true → later-carts v k (map (stop n) vs ++ rest) ≡ later-carts v k rest
 unfolding later-carts counted stop
 pass-own v k n [] rest e = refl
@@ -253,6 +246,7 @@ pass-own v k n (x ∷ xs) rest e =
     ap (λ (b : Bool). cond (not b && not (eqb k n) && (ltb (v .step) (x .step) && eqb (v .cell) (x .cell))) (suc (later-carts v n (map (stop n) xs ++ rest))) (later-carts v k (map (stop n) xs ++ rest))) e
     ∙ pass-own v k n xs rest e
 
+-- so are those of the cart counted last
 pass-counted : (v : Stop) (n : ℕ) (vs : List Visit) (rest : List Stop) → later-carts v n (map (stop n) vs ++ rest) ≡ later-carts v n rest
 unfolding later-carts counted stop
 pass-counted v n [] rest = refl
@@ -371,11 +365,12 @@ orders-are p h =
 
 -- ---- all bounds
 
--- one start bound and one finish bound for each route
+-- one start bound for each route
 start-count : (rs : List Route) → length (start-bounds rs) ≡ length rs
 unfolding start-bounds
 start-count rs = length-map rs (λ (r : Route). record { from = 0; to = r .first; lo = 0; hi = some 0 })
 
+-- and one finish bound
 finish-count : (f : ℕ) (rs : List Route) → length (finish-bounds f rs) ≡ length rs
 unfolding finish-bounds
 finish-count f rs = length-map rs (λ (r : Route). no-earlier (last-event r) f)

@@ -6,13 +6,13 @@ use mathlib.Core.Path.{_≡_, refl, ap, sym, _∙_, subst}
 use mathlib.Core.Bool.{Bool, true, false, _&&_}
 use mathlib.Core.List.{List, [], _∷_}
 use lib.Dec.{leb}
-use lib.ListN.{length, take, drop, length-take, length-drop}
+use lib.ListN.{length, take, drop, length-drop}
 use lib.Seq.{length-take-le}
 use borrow.Author.Tests.{le-leb, lt-leb}
 use Rattle.floor.specs.Arrays.{paths-in}
 use Rattle.network.specs.Events.{visits-of, points}
 use Rattle.network.specs.Limits.{of-paths, limits-kept, paths-within}
-use Rattle.network.specs.Counts.{total, moves, Stop, stops, orders-from, orders-among}
+use Rattle.network.specs.Counts.{total, moves, stops, orders-from, orders-among}
 use Rattle.network.proofs.Counts.{path-points, point-count, limits-are}
 
 -- ---- paths in an array
@@ -38,17 +38,19 @@ all-events (suc n) w s l h =
     let left : length (drop w s) ≡ length s - w = length-drop w s in
     omega (arith, path-events (take w s) (omega arith), all-events n w (drop w s) l (omega arith))
 
--- paths without cells have no point, no move and no visit
+-- paths without cells have no point
 empty-points : (n : ℕ) (s : List ℕ) → total path-points (paths-in n 0 s) ≡ 0
 unfolding paths-in total visits-of points
 empty-points zero s = refl
 empty-points (suc n) s = omega (arith, empty-points n s)
 
+-- no move
 empty-moves : (n : ℕ) (s : List ℕ) → total moves (paths-in n 0 s) ≡ 0
 unfolding paths-in total moves
 empty-moves zero s = refl
 empty-moves (suc n) s = omega (arith, empty-moves n s)
 
+-- and no visit
 empty-stops : (n j : ℕ) (s : List ℕ) → stops j (paths-in n 0 s) ≡ []
 unfolding paths-in stops visits-of
 empty-stops zero j s = refl
@@ -100,10 +102,11 @@ module _ (n w : ℕ) (s : List ℕ) where
       ∙ sym (limits-are ps)
       ∙ all-there h k l
 
-  -- in an array of paths with cells
+  -- too many events, by the moves counted
   pub many-events : n ≤ 64 → w ≤ 1024 → n * w ≤ length s → 1 ≤ w → (m : ℕ) → m ≡ total moves (paths-in n w s) → 4096 < 2 + n + 3 * m → false ≡ paths-within n w s
   many-events h k l o m e over = many-found h k l (omega (arith, all-events n w s o l))
 
+  -- the bounds, by the moves and the order bounds counted
   pub bounds-counted : n ≤ 64 → w ≤ 1024 → n * w ≤ length s → 1 ≤ w → (m b : ℕ) → m ≡ total moves (paths-in n w s)
       → b ≡ orders-among (stops 1 (paths-in n w s)) → 2 + n + 3 * m ≤ 4096 → leb (2 * n + 3 * m + b) 8192 ≡ paths-within n w s
   bounds-counted h k l o m b e f under =
@@ -111,7 +114,7 @@ module _ (n w : ℕ) (s : List ℕ) where
       ∙ ap (λ (x : ℕ). leb (2 * n + 3 * total moves (paths-in n w s) + x) 8192) f
       ∙ bounds-found h k l (omega (arith, all-events n w s o l))
 
--- no steps: two events, and two bounds for each cart
+-- paths without cells make two events, and two bounds for each cart
 no-cells : (n : ℕ) (s : List ℕ) → n ≤ 64 → true ≡ paths-within n 0 s
 no-cells n s h =
     let none : n * 0 ≡ 0 = mul-zero n in
@@ -119,5 +122,6 @@ no-cells n s h =
     sym (le-leb (2 * n + 3 * total moves (paths-in n 0 s) + orders-among (stops 1 (paths-in n 0 s))) 8192 few)
     ∙ bounds-found n 0 s h (omega arith) (omega arith) (omega (arith, empty-points n s))
 
+-- where there are no steps
 pub no-steps : (n w : ℕ) (s : List ℕ) → n ≤ 64 → w ≡ 0 → true ≡ paths-within n w s
 no-steps n w s h e = subst (λ (x : ℕ). true ≡ paths-within n x s) (sym e) (no-cells n s h)

@@ -1,10 +1,11 @@
 -- How many events and bounds paths make, as the code counts them; that these are the counts of the definitions is shown in `proofs.Counts`.
 -- Assumes nothing.
-use Prim.Native.Nat.{ℕ, zero, suc, _+_, _*_}
+use Prim.Native.Nat.{ℕ, zero, suc, _+_, _-_, _%_, _<_}
+use mathlib.Core.Path.{_≡_}
 use mathlib.Core.Bool.{Bool, false, not, _&&_, cond}
 use mathlib.Core.List.{List, [], _∷_, _++_, map}
 use lib.Dec.{ltb, eqb}
-use lib.ListN.{length, getD}
+use lib.ListN.{getD}
 use Rattle.network.specs.Events.{Visit, visits-of}
 
 -- the sum over a list
@@ -71,7 +72,19 @@ unfoldable pub stops-in : List ℕ → List ℕ → List ℕ → ℕ → ℕ →
 stops-in carts steps cells zero i = []
 stops-in carts steps cells (suc n) i = stop-at carts steps cells i ∷ stops-in carts steps cells n (suc i)
 
+-- ---- visits linked by their cells' remainders
+
+-- of l visits, from the i-th on: how many are left from the first on whose cell has remainder b
+unfoldable pub left-in : List ℕ → ℕ → ℕ → ℕ → ℕ
+left-in cells b zero i = 0
+left-in cells b (suc l) i = cond (eqb (getD cells i 0 % 1024) b) (suc l) (left-in cells b l (suc i))
+
+-- of the last visits of n: each remainder's first, and to each visit the next of its remainder, by how many visits are left from there on
+pub record Linked (cells heads nexts : List ℕ) (n left : ℕ) : Type 0 where
+  pub heads-are : (b : ℕ) → b < 1024 → getD heads b 0 ≡ left-in cells b left (n - left)
+  pub nexts-are : (l : ℕ) → l < left → getD nexts (n - suc l) 0 ≡ left-in cells (getD cells (n - suc l) 0 % 1024) l (n - l)
+
 -- Names every definition of this module, for a proof that computes with them all.
 unfoldable pub open-counts : Unit {0}
-unfolding total moves-after moves stop stops counted later-carts goes-on orders-from orders-among stop-at stops-in
+unfolding total moves-after moves stop stops counted later-carts goes-on orders-from orders-among stop-at stops-in left-in
 open-counts = tt

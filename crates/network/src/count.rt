@@ -2,11 +2,11 @@
 // the steps and the cells.
 ghost use mathlib.Core.Path.{_≡_};
 ghost use mathlib.Core.List.{_++_, map};
-ghost use Prim.Native.Nat.{_+_, _*_, _≤_, _<_};
-ghost use lib.ListN.{length, take, drop};
+ghost use Prim.Native.Nat.{ℕ, _+_, _*_, _≤_, _<_};
+ghost use lib.ListN.{length, take, drop, getD};
 ghost use Rattle.floor.specs.Arrays.{paths-in};
 ghost use Rattle.network.specs.Events.{visits-of};
-ghost use Rattle.network.specs.Counts.{total, moves, stop, stops, counted, later-carts, orders-among, stop-at, stops-in};
+ghost use Rattle.network.specs.Counts.{total, moves, stop, stops, counted, later-carts, orders-among, stop-at, stops-in, Linked};
 
 // The moves of the path at place `at`.
 fn moves_of(cells: &[u32], at: usize, steps: usize) -> usize
@@ -131,10 +131,35 @@ fn is_counted(j: u32, t: u32, c: u32, k: u32, i: u32, s: u32, x: u32) -> bool
     c == x
 }
 
-// How many other carts visit the cell of visit v later.
-fn others_later(numbers: &[u32], times: &[u32], places: &[u32], n: usize, v: usize) -> usize
-    requires { ⌜ (n ≤ length (now numbers)) × (n ≤ length (now times)) × (n ≤ length (now places)) ⌝ }
-    requires { ⌜ v < n ⌝ }
+// Links n visits: to each the next whose cell has the same remainder.
+fn link(places: &[u32], n: usize, heads: &mut [u32], nexts: &mut [u32])
+    requires { ⌜ (n ≤ 1408) × (length (now places) ≡ 1408) × (length (now heads) ≡ 1024) × (length (now nexts) ≡ 1408) ⌝ }
+    requires { ⌜ ((b : ℕ) → b < 1024 → getD (now heads) b 0 ≡ 0) ⌝ }
+    ensures { λ _. ⌜ Linked (now (places .entry)) (now (heads .exit)) (now (nexts .exit)) n n ⌝ }
+{
+    let mut left: usize = 0;
+    while left < n {
+        left += 1;
+        let u = n - left;
+        let b = (places[u] % 1024) as usize;
+        nexts[u] = heads[b];
+        heads[b] = left as u32;
+    }
+}
+
+// How many other carts visit the cell of visit v later. The visits of its remainder are gone through.
+fn others_later(
+    numbers: &[u32],
+    times: &[u32],
+    places: &[u32],
+    heads: &[u32],
+    nexts: &[u32],
+    n: usize,
+    v: usize,
+) -> usize
+    requires { ⌜ (n ≤ 1408) × (v < n) ⌝ }
+    requires { ⌜ (length (now numbers) ≡ 1408) × (length (now times) ≡ 1408) × (length (now places) ≡ 1408) ⌝ }
+    requires { ⌜ (length (now heads) ≡ 1024) × (length (now nexts) ≡ 1408) × Linked (now places) (now heads) (now nexts) n n ⌝ }
     ensures { λ r. ⌜ r ≡ later-carts (stop-at (now (numbers .entry)) (now (times .entry)) (now (places .entry)) v) 0
         (stops-in (now (numbers .entry)) (now (times .entry)) (now (places .entry)) n 0) ⌝ }
 {
@@ -143,22 +168,31 @@ fn others_later(numbers: &[u32], times: &[u32], places: &[u32], n: usize, v: usi
     let c = places[v];
     let mut k: u32 = 0;
     let mut count: usize = 0;
-    let mut u: usize = 0;
-    while u < n {
+    let mut left = heads[(c % 1024) as usize] as usize;
+    while 0 < left {
+        let u = n - left;
         let i = numbers[u];
         if is_counted(j, t, c, k, i, times[u], places[u]) {
             count += 1;
             k = i;
         }
-        u += 1;
+        left = nexts[u] as usize;
     }
     count
 }
 
 // How many order bounds there are among n visits.
-fn orders_among(numbers: &[u32], times: &[u32], places: &[u32], n: usize) -> usize
+fn orders_among(
+    numbers: &[u32],
+    times: &[u32],
+    places: &[u32],
+    heads: &[u32],
+    nexts: &[u32],
+    n: usize,
+) -> usize
     requires { ⌜ n ≤ 1408 ⌝ }
     requires { ⌜ (length (now numbers) ≡ 1408) × (length (now times) ≡ 1408) × (length (now places) ≡ 1408) ⌝ }
+    requires { ⌜ (length (now heads) ≡ 1024) × (length (now nexts) ≡ 1408) × Linked (now places) (now heads) (now nexts) n n ⌝ }
     ensures { λ r. ⌜ r ≡ orders-among (stops-in (now (numbers .entry)) (now (times .entry)) (now (places .entry)) n 0) ⌝ }
     ensures { λ r. ⌜ r ≤ 2000000 ⌝ }
 {
@@ -166,7 +200,7 @@ fn orders_among(numbers: &[u32], times: &[u32], places: &[u32], n: usize) -> usi
     let mut v: usize = 0;
     while v + 1 < n {
         if numbers[v] == numbers[v + 1] {
-            sum += others_later(numbers, times, places, n, v);
+            sum += others_later(numbers, times, places, heads, nexts, n, v);
         }
         v += 1;
     }
@@ -184,5 +218,8 @@ pub(crate) fn all_orders(cells: &[u32], carts: usize, steps: usize) -> usize
     let mut times: [u32; 1408] = [0; 1408];
     let mut places: [u32; 1408] = [0; 1408];
     let n = put_all(cells, carts, steps, &mut numbers, &mut times, &mut places);
-    orders_among(&numbers, &times, &places, n)
+    let mut heads: [u32; 1024] = [0; 1024];
+    let mut nexts: [u32; 1408] = [0; 1408];
+    link(&places, n, &mut heads, &mut nexts);
+    orders_among(&numbers, &times, &places, &heads, &nexts, n)
 }

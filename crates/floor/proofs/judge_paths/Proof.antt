@@ -12,7 +12,8 @@ use Rattle.floor.specs.Paths.{steps}
 use Rattle.floor.specs.Arrays.{roads-in, paths-in}
 use Rattle.floor.specs.Reading.{paths-read}
 use Rattle.floor.proofs.Searches.{steps-all}
-use Rattle.floor.proofs.Found.{apart-off, apart-same, apart-exchange, apart-kept, paths-in-length}
+use Rattle.floor.proofs.Found.{apart-off, apart-same, apart-exchange, apart-kept}
+use Rattle.floor.proofs.PathRecords.{paths-in-length}
 use Rattle.floor.proofs.judge_paths.Statement.{statement}
 use Rattle.floor.proofs.judge_paths.Tie as tie
 

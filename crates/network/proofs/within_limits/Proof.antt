@@ -1,17 +1,12 @@
 -- `network::within_limits` meets its contract: each test is one of the definition's, by the counts of moves and order bounds.
 -- Assumes nothing.
-use Prim.Native.Nat.{_+_, _*_, _≤_, _<_}
+use Prim.Native.Nat.{_≤_}
 use native.Mathlib.Nat.{mul-le-mul-right}
 use native.Mathlib.Omega.{arith}
-use lib.ListN.{length}
 use Rattle.network.proofs.LimitSteps.{many-carts, many-steps, few-cells, no-steps, many-events, bounds-counted}
 use borrow.Author.Needs.{needs}
 use Rattle.network.proofs.within_limits.Statement.{statement}
 use Rattle.network.proofs.within_limits.Tie as tie
-use Rattle.network.proofs.within_limits.Reads as reads
-use Rattle.network.proofs.within_limits.Lts as lts
-use Rattle.network.proofs.count.all_moves.Reads as all-moves-reads
-use Rattle.network.proofs.count.all_orders.Reads as all-orders-reads
 
 returns : tie.Need-returns
 returns c = let a = c .before .before .args in many-carts (a .carts) (a .steps) (a .cells .now) (c .if1 .taken)

@@ -4,15 +4,12 @@ use Prim.Native.Nat.{ℕ, _+_, _*_, _≤_, _<_, _-_}
 use native.Mathlib.Omega.{arith}
 use mathlib.Core.Path.{_≡_, ap, _∙_}
 use borrow.Author.Needs.{needs}
-use lib.ListN.{length, take, drop}
+use lib.ListN.{take, drop}
 use Rattle.floor.specs.Arrays.{paths-in}
 use Rattle.network.specs.Counts.{total, moves}
 use Rattle.network.proofs.CountSteps.{path-moves-most, rows-left, all-moves-cons, all-moves-none, from-first}
 use Rattle.network.proofs.count.all_moves.Statement.{statement}
 use Rattle.network.proofs.count.all_moves.Tie as tie
-use Rattle.network.proofs.count.all_moves.Reads as reads
-use Rattle.network.proofs.count.all_moves.Lts as lts
-use Rattle.network.proofs.count.moves_of.Reads as moves-of-reads
 
 abbrev Inv-loop : tie.InvT-loop
 Inv-loop cells carts steps n₀ i₀ at₀ n i at =

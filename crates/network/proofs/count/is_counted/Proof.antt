@@ -1,11 +1,8 @@
 -- `network::count::is_counted` meets its contract: each test is one of the definition's. Assumes nothing.
-use mathlib.Core.Path.{_≡_, refl}
 use borrow.Author.Tests.{eq-eqb, ne-eqb, lt-ltb, le-ltb}
 use Rattle.network.specs.Counts.{counted}
 use Rattle.network.proofs.count.is_counted.Statement.{statement}
 use Rattle.network.proofs.count.is_counted.Tie as tie
-use Rattle.network.proofs.count.is_counted.Reads as reads
-use Rattle.network.proofs.count.is_counted.Lts as lts
 
 returns : tie.Need-returns
 unfolding counted

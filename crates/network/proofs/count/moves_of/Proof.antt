@@ -10,8 +10,6 @@ use Rattle.network.specs.Counts.{moves, moves-after}
 use Rattle.network.proofs.CountSteps.{steps-from, moves-first, moves-wait, moves-move, moves-none}
 use Rattle.network.proofs.count.moves_of.Statement.{statement}
 use Rattle.network.proofs.count.moves_of.Tie as tie
-use Rattle.network.proofs.count.moves_of.Reads as reads
-use Rattle.network.proofs.count.moves_of.Lts as lts
 
 abbrev Inv-loop : tie.InvT-loop
 Inv-loop cells at steps c₀ n₀ s₀ c n s =

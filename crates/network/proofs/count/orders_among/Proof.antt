@@ -2,31 +2,27 @@
 -- Assumes nothing.
 use Prim.Native.Nat.{ℕ, _+_, _*_, _≤_, _<_, _-_}
 use native.Mathlib.Omega.{arith}
-use mathlib.Core.Path.{_≡_, refl, ap, sym, _∙_}
+use mathlib.Core.Path.{_≡_, ap}
 use mathlib.Core.List.{List}
 use mathlib.Core.Logic.{⊎-elim}
 use borrow.Author.Needs.{needs}
-use lib.ListN.{length, getD}
 use Rattle.network.specs.Counts.{Stop, later-carts, orders-from, orders-among, stop-at, stops-in}
 use Rattle.network.proofs.CountSteps.{later-most, orders-more, orders-same, orders-none}
 use Rattle.network.proofs.count.orders_among.Statement.{statement}
 use Rattle.network.proofs.count.orders_among.Tie as tie
-use Rattle.network.proofs.count.orders_among.Reads as reads
-use Rattle.network.proofs.count.orders_among.Lts as lts
-use Rattle.network.proofs.count.others_later.Reads as others-later-reads
 
 abbrev Inv-loop : tie.InvT-loop
-Inv-loop numbers times places n sum₀ v₀ sum v =
+Inv-loop numbers times places heads nexts n sum₀ v₀ sum v =
     (v ≤ n) × (sum ≤ v * 1408)
     × (sum + orders-from (stops-in numbers times places n 0) (stops-in numbers times places (n - v) v) ≡ orders-among (stops-in numbers times places n 0))
 
 abbrev μ-loop : tie.MeasureT-loop
-μ-loop numbers times places n sum₀ v₀ sum v = n - v
+μ-loop numbers times places heads nexts n sum₀ v₀ sum v = n - v
 
 loop-holds : tie.Need-loop-holds Inv-loop μ-loop
 unfolding orders-among
 loop-holds c =
-    let a = c .before .before .before .args in
+    let a = c .before .before .before .before .before .args in
     let all : List Stop = stops-in (a .numbers .now) (a .times .now) (a .places .now) (a .n) 0 in
     let whole : a .n - 0 ≡ a .n = omega arith in
     (omega arith, omega arith, omega (arith, ap (λ (m : ℕ). orders-from all (stops-in (a .numbers .now) (a .times .now) (a .places .now) m 0)) whole))
@@ -55,7 +51,7 @@ others-later-requires c κs = search needs
 add-sum : tie.Need-add-sum Inv-loop μ-loop
 add-sum c =
     let l = c .before .before .before .before .before in
-    let a = l .before .before .before .before .args in
+    let a = l .before .before .before .before .before .before .args in
     let v : Stop = stop-at (a .numbers .now) (a .times .now) (a .places .now) (l .loop .v) in
     let e : c .others-later .result ≡ later-carts v 0 (stops-in (a .numbers .now) (a .times .now) (a .places .now) (a .n) 0) = c .others-later .ensures in
     omega (arith, later-most (a .numbers .now) (a .times .now) (a .places .now) v 0 (a .n) 0)
@@ -70,7 +66,7 @@ loop-again : tie.Need-loop-again Inv-loop μ-loop
 loop-again c =
     let q = c .before .before .before in
     let l = q .before in
-    let a = l .before .before .before .before .args in
+    let a = l .before .before .before .before .before .before .args in
     let all : List Stop = stops-in (a .numbers .now) (a .times .now) (a .places .now) (a .n) 0 in
     let v : Stop = stop-at (a .numbers .now) (a .times .now) (a .places .now) (l .loop .v) in
     let t : l .loop .v + 1 < a .n = q .loop-test .taken in
@@ -91,7 +87,7 @@ loop-again c =
 returns : tie.Need-returns Inv-loop μ-loop
 returns c =
     let l = c .before in
-    let a = l .before .before .before .before .args in
+    let a = l .before .before .before .before .before .before .args in
     let all : List Stop = stops-in (a .numbers .now) (a .times .now) (a .places .now) (a .n) 0 in (
       omega (arith, orders-none (a .numbers .now) (a .times .now) (a .places .now) all (a .n) (l .loop .v) (c .loop-test .left)),
       omega arith,

@@ -2,7 +2,7 @@
 -- Assumes nothing.
 use Prim.Native.Nat.{ℕ, _+_, _*_, _≤_, _<_, _-_}
 use native.Mathlib.Omega.{arith}
-use mathlib.Core.Path.{_≡_, refl, ap, sym, _∙_}
+use mathlib.Core.Path.{_≡_, ap, sym, _∙_}
 use mathlib.Core.List.{List, _++_, map, append-nil, append-assoc}
 use borrow.Author.Needs.{needs}
 use lib.ListN.{length, take, drop}
@@ -12,9 +12,6 @@ use Rattle.network.specs.Counts.{total, moves, Stop, stop, stops, stops-
 use Rattle.network.proofs.CountSteps.{rows-left, all-moves-cons, all-moves-none, from-first, stops-path, stops-done}
 use Rattle.network.proofs.count.put_all.Statement.{statement}
 use Rattle.network.proofs.count.put_all.Tie as tie
-use Rattle.network.proofs.count.put_all.Reads as reads
-use Rattle.network.proofs.count.put_all.Lts as lts
-use Rattle.network.proofs.count.put_visits.Reads as put-visits-reads
 
 abbrev Inv-loop : tie.InvT-loop
 Inv-loop cells carts steps numbers₀ times₀ places₀ n₀ i₀ at₀ numbers times places n i at =

@@ -12,8 +12,6 @@ use Rattle.network.specs.Counts.{moves-after, moves, Stop, stop, stops-i
 use Rattle.network.proofs.CountSteps.{steps-from, moves-first, moves-wait, moves-move, moves-none, visits-first, visits-wait, visits-move, visits-none, put-one, put-next, put-none}
 use Rattle.network.proofs.count.put_visits.Statement.{statement}
 use Rattle.network.proofs.count.put_visits.Tie as tie
-use Rattle.network.proofs.count.put_visits.Reads as reads
-use Rattle.network.proofs.count.put_visits.Lts as lts
 
 abbrev Inv-loop : tie.InvT-loop
 Inv-loop cells at steps j n numbers₀ times₀ places₀ c₀ m₀ s₀ numbers times places c m s =
