@@ -4,7 +4,5 @@ pub mod Roads
 pub mod Carts
 pub mod Paths
 pub mod Tables
-pub mod Arrays
-pub mod Reading
 pub mod Examples
 pub mod Open

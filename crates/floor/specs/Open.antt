@@ -7,10 +7,8 @@ use Rattle.floor.specs.Roads.{open-roads}
 use Rattle.floor.specs.Carts.{open-carts}
 use Rattle.floor.specs.Paths.{open-paths}
 use Rattle.floor.specs.Tables.{open-tables}
-use Rattle.floor.specs.Arrays.{open-arrays}
-use Rattle.floor.specs.Reading.{open-reading}
 use Rattle.floor.specs.Examples.{open-examples}
 
 unfoldable pub open-floor : Unit {0}
-unfolding open-csv open-refusal open-plan open-roads open-carts open-paths open-tables open-arrays open-reading open-examples
+unfolding open-csv open-refusal open-plan open-roads open-carts open-paths open-tables open-examples
 open-floor = tt

@@ -10,17 +10,17 @@ use Rattle.words.specs.Words.{padded}
 use Rattle.floor.specs.declared.Reason.the-variants.{Limit}
 use Rattle.floor.specs.declared.Table.the-variants.{Paths}
 use Rattle.floor.specs.declared.Refusal.{Refusal}
-use Rattle.floor.specs.declared.Reading.{Reading}
+use Rattle.tables.specs.declared.Reading.{Reading}
 use Rattle.floor.specs.Refusal.{Judged, refused, accepted}
 use Rattle.floor.specs.Plan.{Plan}
 use Rattle.floor.specs.Tables.{Tables, read-tables}
-use Rattle.floor.specs.Arrays.{path-cells}
-use Rattle.floor.specs.Reading.{Outcome, read-answer, arrays-judged, numbers-of, read-into}
+use Rattle.tables.specs.Arrays.{path-cells}
+use Rattle.tables.specs.Reading.{Outcome, read-answer, arrays-judged, numbers-of, read-into}
 use Rattle.floor.proofs.Judging.{goes-on, ends}
-use Rattle.floor.proofs.TablesRead.{answer-refused, answer-read, answer-short, into-judged, room-for}
+use Rattle.tables.proofs.TablesRead.{answer-refused, answer-read, into-judged, room-for}
 use Rattle.network.specs.Judge.{within-limits, judge}
-use Rattle.network.specs.Limits.{limits-kept, paths-within}
-use Rattle.network.proofs.Kept.{within-kept, within-over, paths-within-is}
+use Rattle.limits.specs.Limits.{limits-kept, paths-within}
+use Rattle.limits.proofs.Kept.{within-kept, within-over, paths-within-is}
 use Rattle.hegtalim.specs.declared.Loaded.{Loaded}
 use Rattle.hegtalim.specs.PlanSlice.{plan-slice}
 use Rattle.hegtalim.specs.Outcomes.{Load, load-judged, load}
@@ -65,45 +65,43 @@ module _ (r c p e s k : List ℕ) (a : 4096 ≤ length e) (b : 128 ≤ length s)
   tables = record { roads = r; carts = c; paths = p }
 
   -- so its answer is that of the judgement
-  answered : read-into r c p e s k .answer ≡ read-answer (read-tables tables)
-  answered = ap (λ (o : Outcome). o .answer) (into-judged r c p e s k (room-for e s k a b d) (read-tables tables) refl)
+  pub read-said : read-into r c p e s k .answer ≡ read-answer (read-tables tables)
+  read-said = ap (λ (o : Outcome). o .answer) (into-judged r c p e s k (room-for e s k a b d) (read-tables tables) refl)
 
+  -- and the cells of an accepted plan are left
+  pub cells-left : (x : Plan) → read-tables tables ≡ accepted x → read-into r c p e s k .arrays .cells ≡ padded (length k) (path-cells (x .paths))
+  unfolding arrays-judged numbers-of
+  cells-left x q = ap (λ (o : Outcome). o .arrays .cells) (into-judged r c p e s k (room-for e s k a b d) (accepted x) q)
+
+-- from what the reader said
+module _ (ts : Tables) where
   -- a refusal of the reader
-  pub judged-refused : (why : Refusal) → Reading.Refused why ≡ read-into r c p e s k .answer → Loaded.Refused why ≡ said tables
+  pub judged-refused : (why : Refusal) → Reading.Refused why ≡ read-answer (read-tables ts) → Loaded.Refused why ≡ said ts
   unfolding judge
-  judged-refused why q = said-refused tables why (ends (read-tables tables) within-limits why (answer-refused (read-tables tables) why (q ∙ answered)))
-
-  -- it never finds its arrays too short
-  pub never-short : Reading.TooShort ≡ read-into r c p e s k .answer → ⊥
-  never-short q = answer-short (read-tables tables) (q ∙ answered)
+  judged-refused why q = said-refused ts why (ends (read-tables ts) within-limits why (answer-refused (read-tables ts) why q))
 
   -- a plan was read, and its paths were looked at
-  module _ (n m w : ℕ) (q : Reading.Read n m w ≡ read-into r c p e s k .answer) (cells : List ℕ) (left : cells ≡ read-into r c p e s k .arrays .cells)
-      (t : Bool) (found : t ≡ paths-within m w cells) where
-    plan : (x : Plan) × (read-tables tables ≡ accepted x)
-    plan = answer-read (read-tables tables) n m w (q ∙ answered)
+  module _ (n m w : ℕ) (q : Reading.Read n m w ≡ read-answer (read-tables ts)) (size : ℕ) (d : 8192 ≤ size) (cells : List ℕ)
+      (left : (x : Plan) → read-tables ts ≡ accepted x → cells ≡ padded size (path-cells (x .paths))) (t : Bool) (found : t ≡ paths-within m w cells) where
+    plan : (x : Plan) × (read-tables ts ≡ accepted x)
+    plan = answer-read (read-tables ts) n m w q
 
     kept : t ≡ limits-kept (plan .0)
-    unfolding read-answer arrays-judged numbers-of
+    unfolding read-answer
     kept =
         let (x, e) = plan in
-        let said : Reading.Read n m w ≡ read-answer (accepted x) = q ∙ answered ∙ ap read-answer e in
-        let held : cells ≡ padded (length k) (path-cells (x .paths)) = left ∙ ap (λ (o : Outcome). o .arrays .cells) (into-judged r c p _ s k (room-for _ s k a b d) (accepted x) e) in
-        found ∙ ap (paths-within m w) held ∙ ap₂ (λ (i j : ℕ). paths-within i j (padded (length k) (path-cells (x .paths)))) (carts-of said) (steps-of said) ∙ paths-within-is tables x e (length k) d
+        let told : Reading.Read n m w ≡ read-answer (accepted x) = q ∙ ap read-answer e in
+        found ∙ ap (paths-within m w) (left x e) ∙ ap₂ (λ (i j : ℕ). paths-within i j (padded size (path-cells (x .paths)))) (carts-of told) (steps-of told) ∙ paths-within-is ts x e size d
 
     -- within the limits
-    pub judged-held : t ≡ true → Loaded.Held ≡ said tables
+    pub judged-held : t ≡ true → Loaded.Held ≡ said ts
     unfolding judge
-    judged-held h =
-        let (x, e) = plan in
-        said-held tables x (goes-on (read-tables tables) within-limits x e ∙ within-kept x (sym kept ∙ h))
+    judged-held h = let (x, e) = plan in said-held ts x (goes-on (read-tables ts) within-limits x e ∙ within-kept x (sym kept ∙ h))
 
     -- over them
-    pub judged-over : t ≡ false → Loaded.Refused (record { reason = Limit; table = Paths; row = 0 }) ≡ said tables
+    pub judged-over : t ≡ false → Loaded.Refused (record { reason = Limit; table = Paths; row = 0 }) ≡ said ts
     unfolding judge
-    judged-over h =
-        let (x, e) = plan in
-        said-refused tables _ (goes-on (read-tables tables) within-limits x e ∙ within-over x (sym kept ∙ h))
+    judged-over h = let (x, e) = plan in said-refused ts _ (goes-on (read-tables ts) within-limits x e ∙ within-over x (sym kept ∙ h))
 
 -- ---- the call
 

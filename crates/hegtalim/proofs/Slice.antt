@@ -10,6 +10,7 @@ use lib.ListN.{length, take, drop, replicate, length-append, length-replicate, l
 use lib.Seq.{take-at, drop-at, drop-drop}
 use Rattle.laws.proofs.Tests.{passes}
 use Rattle.words.specs.Words.{little, word, words, padded}
+use Rattle.words.proofs.Padding.{padded-length}
 use Rattle.words.proofs.Reading.{word-length, words-length, little-word}
 use Rattle.csv.specs.Text.{same}
 use Rattle.csv.proofs.Text.{same-equal, same-self}
@@ -26,21 +27,13 @@ use Rattle.hegtalim.specs.PlanSlice.{plan-need, plan-slice, until-zero, 
 
 -- ---- padding
 
--- bytes filled up to m places
-filled-length : (m z : ℕ) (l : List ℕ) → length (l ++ replicate (m - length l) z) ≡ length l + (m - length l)
-filled-length m z l = length-append l (replicate (m - length l) z) ∙ ap (λ (x : ℕ). length l + x) (length-replicate (m - length l) z)
-
--- what fits is padded to just its size
-padded-length : (m : ℕ) (l : List ℕ) → length l ≤ m → length (padded m l) ≡ m
-unfolding padded
-padded-length m l h = filled-length m _ l ∙ omega (arith, h)
-
--- and nothing is padded to less than its size or than itself
+-- nothing is padded to less than its size or than itself
 padded-at-least : (m : ℕ) (l : List ℕ) → (m ≤ length (padded m l)) × (length l ≤ length (padded m l))
 unfolding padded
 padded-at-least m l =
-    let e : length (padded m l) ≡ length l + (m - length l) = filled-length m _ l in
-    (omega (arith, e), omega (arith, e))
+    let e = length-append l (replicate (m - length l) 0) in
+    let z = length-replicate {A = ℕ} (m - length l) 0 in
+    (omega (arith, e, z), omega (arith, e, z))
 
 -- zeros end at once
 until-zero-zeros : (k : ℕ) → until-zero (replicate k 0) ≡ []

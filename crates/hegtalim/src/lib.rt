@@ -1,14 +1,20 @@
 // The calls on a plan. The definitions of what they answer and leave are in specs/.
-use floor::Reading;
 use floor::Reason;
 use floor::Refusal;
 use floor::Table;
+use tables::Reading;
 ghost use mathlib.Core.Path.{_≡_};
 ghost use mathlib.Core.List.{[]};
-ghost use Prim.Native.Nat.{_≤_};
+ghost use Prim.Native.Nat.{_≤_, _<_};
 ghost use lib.ListN.{length, replicate};
-ghost use Rattle.words.specs.Words.{written};
+ghost use Rattle.words.specs.Words.{written, padded};
+ghost use Rattle.floor.specs.Refusal.{accepted};
+ghost use Rattle.floor.specs.Plan.{Plan};
+ghost use Rattle.floor.specs.Tables.{read-tables};
+ghost use Rattle.tables.specs.Arrays.{path-cells};
+ghost use Rattle.tables.specs.Reading.{read-answer};
 ghost use Rattle.network.specs.Judge.{judge};
+ghost use Rattle.hegtalim.specs.Answers.{loaded-answer, c-number};
 ghost use Rattle.hegtalim.specs.PlanSlice.{plan-slice};
 ghost use Rattle.hegtalim.specs.Outcomes.{load-judged, load};
 
@@ -70,14 +76,23 @@ fn store_tables(roads: &[u8], carts: &[u8], paths: &[u8], plan: &mut [u8])
     write_front(paths, &mut plan[131_072..]);
 }
 
+// Reads the tables and leaves the cells of the paths. The other arrays go with this call, so that no more memory is held than is needed.
+fn read_cells(roads: &[u8], carts: &[u8], paths: &[u8], cells: &mut [u32]) -> Reading
+    requires { ⌜ 8192 ≤ length (now cells) ⌝ }
+    ensures answer { λ r. ⌜ r ≡ read-answer (read-tables (record { roads = now (roads .entry); carts = now (carts .entry); paths = now (paths .entry) })) ⌝ }
+    ensures left { λ _. ⌜ ((p : Plan) → read-tables (record { roads = now (roads .entry); carts = now (carts .entry); paths = now (paths .entry) }) ≡ accepted p → now (cells .exit) ≡ padded (length (now (cells .entry))) (path-cells (p .paths))) ⌝ }
+{
+    let mut edges = [0u32; 4096];
+    let mut speeds = [0u32; 128];
+    tables::read_tables(roads, carts, paths, &mut edges, &mut speeds, cells)
+}
+
 // What is said of three tables.
 fn judge_tables(roads: &[u8], carts: &[u8], paths: &[u8]) -> Loaded
     ensures { λ r. ⌜ r ≡ load-judged (record { roads = now (roads .entry); carts = now (carts .entry); paths = now (paths .entry) }) 0 (judge (record { roads = now (roads .entry); carts = now (carts .entry); paths = now (paths .entry) })) .answer ⌝ }
 {
-    let mut edges = [0u32; 4096];
-    let mut speeds = [0u32; 128];
     let mut cells = [0u32; 8192];
-    let x = floor::read_tables(roads, carts, paths, &mut edges, &mut speeds, &mut cells);
+    let x = read_cells(roads, carts, paths, &mut cells);
     match x {
         Reading::Refused(why) => Loaded::Refused(why),
         Reading::TooShort => Loaded::TooShort,
@@ -86,7 +101,7 @@ fn judge_tables(roads: &[u8], carts: &[u8], paths: &[u8]) -> Loaded
             carts: n,
             steps: w,
         } => {
-            if network::within_limits(&cells, n, w) {
+            if limits::within_limits(&cells, n, w) {
                 return Loaded::Held;
             }
             Loaded::Refused(Refusal {
@@ -116,4 +131,31 @@ pub fn load(roads: &[u8], carts: &[u8], paths: &[u8], plan: &mut [u8]) -> Loaded
         Loaded::TooShort => Loaded::TooShort,
         Loaded::Refused(why) => Loaded::Refused(why),
     }
+}
+
+// The one number that a C function returns for a load's answer.
+fn loaded_number(x: Loaded) -> u64
+    requires { ⌜ loaded-answer x .value < 4294967296 ⌝ }
+    ensures { λ r. ⌜ r ≡ c-number (loaded-answer x) ⌝ }
+{
+    match x {
+        Loaded::Held => 0,
+        Loaded::TooShort => 14,
+        Loaded::Refused(why) => {
+            let reason = why.reason;
+            let table = why.table;
+            let row = why.row as u64;
+            floor::reason_number(reason) + 256 * floor::table_number(table) + 4_294_967_296 * row
+        }
+    }
+}
+
+// `load` for a program in C.
+#[no_mangle]
+pub extern "C" fn hegtalim_load(roads: &[u8], carts: &[u8], paths: &[u8], plan: &mut [u8]) -> u64
+    ensures answer { λ r. ⌜ r ≡ c-number (loaded-answer (load (record { roads = now (roads .entry); carts = now (carts .entry); paths = now (paths .entry) }) (now (plan .entry)) .answer)) ⌝ }
+    ensures left { λ _. ⌜ now (plan .exit) ≡ load (record { roads = now (roads .entry); carts = now (carts .entry); paths = now (paths .entry) }) (now (plan .entry)) .plan ⌝ }
+{
+    let x = load(roads, carts, paths, plan);
+    loaded_number(x)
 }

@@ -3,6 +3,4 @@ pub mod Bounds
 pub mod Judge
 pub mod Meaning
 pub mod Levels
-pub mod Limits
-pub mod Counts
 pub mod Open

@@ -5,7 +5,7 @@ use mathlib.Core.Path.{ap, sym, _∙_}
 use mathlib.Core.List.{[]}
 use lib.ListN.{length, length-replicate}
 use Rattle.floor.specs.Tables.{Tables}
-use Rattle.floor.proofs.TablesRead.{blank}
+use Rattle.tables.proofs.TablesRead.{blank}
 use Rattle.hegtalim.specs.PlanSlice.{plan-slice}
 use Rattle.hegtalim.proofs.Slice.{judged-fit}
 use Rattle.hegtalim.proofs.Loading.{held-said, short-said, loads-short, loads-refused, loads-held}

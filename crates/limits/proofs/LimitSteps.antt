@@ -1,0 +1,127 @@
+-- The limits over paths in an array, one test after the other. Assumes nothing.
+use Prim.Native.Nat.{ℕ, zero, suc, _+_, _*_, _-_, _≤_, _<_}
+use native.Mathlib.Nat.{mul-zero, suc-mul}
+use native.Mathlib.Omega.{arith}
+use mathlib.Core.Path.{_≡_, refl, ap, sym, _∙_, subst}
+use mathlib.Core.Bool.{Bool, true, false, _&&_}
+use mathlib.Core.List.{List, [], _∷_}
+use lib.Dec.{leb}
+use lib.ListN.{length, take, drop, length-drop}
+use lib.Seq.{length-take-le}
+use borrow.Author.Tests.{le-leb, lt-leb}
+use Rattle.tables.specs.Arrays.{paths-in}
+use Rattle.network.specs.Events.{visits-of, points}
+use Rattle.limits.specs.Limits.{of-paths, limits-kept, paths-within}
+use Rattle.limits.specs.Counts.{total, moves, stops, orders-from, orders-among}
+use Rattle.limits.proofs.Counts.{path-points, point-count, limits-are}
+
+-- ---- paths in an array
+
+-- as many as there are to be
+path-count : (n w : ℕ) (s : List ℕ) → length (paths-in n w s) ≡ n
+unfolding paths-in
+path-count zero w s = refl
+path-count (suc n) w s = ap suc (path-count n w (drop w s))
+
+-- a path with a cell has three points for each move, and one
+path-events : (q : List ℕ) → 1 ≤ length q → path-points q ≡ suc (3 * moves q)
+path-events [] h = absurd (omega arith)
+path-events (c ∷ cs) h = point-count c cs
+
+-- of all paths
+all-events : (n w : ℕ) (s : List ℕ) → 1 ≤ w → n * w ≤ length s → total path-points (paths-in n w s) ≡ n + 3 * total moves (paths-in n w s)
+unfolding paths-in total
+all-events zero w s l h = refl
+all-events (suc n) w s l h =
+    let m : suc n * w ≡ n * w + w = suc-mul n w in
+    let here : length (take w s) ≡ w = length-take-le w s (omega arith) in
+    let left : length (drop w s) ≡ length s - w = length-drop w s in
+    omega (arith, path-events (take w s) (omega arith), all-events n w (drop w s) l (omega arith))
+
+-- paths without cells have no point
+empty-points : (n : ℕ) (s : List ℕ) → total path-points (paths-in n 0 s) ≡ 0
+unfolding paths-in total visits-of points
+empty-points zero s = refl
+empty-points (suc n) s = omega (arith, empty-points n s)
+
+-- no move
+empty-moves : (n : ℕ) (s : List ℕ) → total moves (paths-in n 0 s) ≡ 0
+unfolding paths-in total moves
+empty-moves zero s = refl
+empty-moves (suc n) s = omega (arith, empty-moves n s)
+
+-- and no visit
+empty-stops : (n j : ℕ) (s : List ℕ) → stops j (paths-in n 0 s) ≡ []
+unfolding paths-in stops visits-of
+empty-stops zero j s = refl
+empty-stops (suc n) j s = empty-stops n (suc j) s
+
+-- and no order bound
+empty-orders : (n : ℕ) (s : List ℕ) → orders-among (stops 1 (paths-in n 0 s)) ≡ 0
+unfolding orders-among orders-from
+empty-orders n s = ap orders-among (empty-stops n 1 s)
+
+-- ---- the tests
+
+module _ (n w : ℕ) (s : List ℕ) where
+  -- too many carts
+  pub many-carts : 64 < n → false ≡ paths-within n w s
+  unfolding paths-within
+  many-carts h = ap (λ (b : Bool). b && leb w 1024 && leb (n * w) (length s) && limits-kept (of-paths (paths-in n w s))) (sym (lt-leb n 64 h))
+
+  -- too many steps
+  pub many-steps : n ≤ 64 → 1024 < w → false ≡ paths-within n w s
+  unfolding paths-within
+  many-steps h k = simp (le-leb n 64 h, lt-leb w 1024 k)
+
+  -- not all of them there
+  pub few-cells : n ≤ 64 → w ≤ 1024 → length s < n * w → false ≡ paths-within n w s
+  unfolding paths-within
+  few-cells h k l = simp (le-leb n 64 h, le-leb w 1024 k, lt-leb (n * w) (length s) l)
+
+  -- else the limits of events and bounds are asked
+  all-there : n ≤ 64 → w ≤ 1024 → n * w ≤ length s → limits-kept (of-paths (paths-in n w s)) ≡ paths-within n w s
+  unfolding paths-within
+  all-there h k l = simp (le-leb n 64 h, le-leb w 1024 k, le-leb (n * w) (length s) l)
+
+  -- too many events
+  many-found : n ≤ 64 → w ≤ 1024 → n * w ≤ length s → 4096 < 2 + total path-points (paths-in n w s) → false ≡ paths-within n w s
+  many-found h k l over =
+      let ps : List (List ℕ) = paths-in n w s in
+      ap (λ (b : Bool). b && leb (2 * length ps + 3 * total moves ps + orders-among (stops 1 ps)) 8192) (sym (lt-leb (2 + total path-points ps) 4096 over))
+      ∙ sym (limits-are ps)
+      ∙ all-there h k l
+
+  -- else the bounds are counted
+  bounds-found : n ≤ 64 → w ≤ 1024 → n * w ≤ length s → 2 + total path-points (paths-in n w s) ≤ 4096
+      → leb (2 * n + 3 * total moves (paths-in n w s) + orders-among (stops 1 (paths-in n w s))) 8192 ≡ paths-within n w s
+  bounds-found h k l under =
+      let ps : List (List ℕ) = paths-in n w s in
+      ap (λ (c : ℕ). leb (2 * c + 3 * total moves ps + orders-among (stops 1 ps)) 8192) (sym (path-count n w s))
+      ∙ ap (λ (b : Bool). b && leb (2 * length ps + 3 * total moves ps + orders-among (stops 1 ps)) 8192) (sym (le-leb (2 + total path-points ps) 4096 under))
+      ∙ sym (limits-are ps)
+      ∙ all-there h k l
+
+  -- too many events, by the moves counted
+  pub many-events : n ≤ 64 → w ≤ 1024 → n * w ≤ length s → 1 ≤ w → (m : ℕ) → m ≡ total moves (paths-in n w s) → 4096 < 2 + n + 3 * m → false ≡ paths-within n w s
+  many-events h k l o m e over = many-found h k l (omega (arith, all-events n w s o l))
+
+  -- the bounds, by the moves and the order bounds counted
+  pub bounds-counted : n ≤ 64 → w ≤ 1024 → n * w ≤ length s → 1 ≤ w → (m b : ℕ) → m ≡ total moves (paths-in n w s)
+      → b ≡ orders-among (stops 1 (paths-in n w s)) → 2 + n + 3 * m ≤ 4096 → leb (2 * n + 3 * m + b) 8192 ≡ paths-within n w s
+  bounds-counted h k l o m b e f under =
+      ap (λ (x : ℕ). leb (2 * n + 3 * x + b) 8192) e
+      ∙ ap (λ (x : ℕ). leb (2 * n + 3 * total moves (paths-in n w s) + x) 8192) f
+      ∙ bounds-found h k l (omega (arith, all-events n w s o l))
+
+-- paths without cells make two events, and two bounds for each cart
+no-cells : (n : ℕ) (s : List ℕ) → n ≤ 64 → true ≡ paths-within n 0 s
+no-cells n s h =
+    let none : n * 0 ≡ 0 = mul-zero n in
+    let few : 2 * n + 3 * total moves (paths-in n 0 s) + orders-among (stops 1 (paths-in n 0 s)) ≤ 8192 = omega (arith, empty-moves n s, empty-orders n s) in
+    sym (le-leb (2 * n + 3 * total moves (paths-in n 0 s) + orders-among (stops 1 (paths-in n 0 s))) 8192 few)
+    ∙ bounds-found n 0 s h (omega arith) (omega arith) (omega (arith, empty-points n s))
+
+-- where there are no steps
+pub no-steps : (n w : ℕ) (s : List ℕ) → n ≤ 64 → w ≡ 0 → true ≡ paths-within n w s
+no-steps n w s h e = subst (λ (x : ℕ). true ≡ paths-within n x s) (sym e) (no-cells n s h)

@@ -1,0 +1,90 @@
+-- How many events and bounds paths make, as the code counts them; that these are the counts of the definitions is shown in `proofs.Counts`.
+-- Assumes nothing.
+use Prim.Native.Nat.{ℕ, zero, suc, _+_, _-_, _%_, _<_}
+use mathlib.Core.Path.{_≡_}
+use mathlib.Core.Bool.{Bool, false, not, _&&_, cond}
+use mathlib.Core.List.{List, [], _∷_, _++_, map}
+use lib.Dec.{ltb, eqb}
+use lib.ListN.{getD}
+use Rattle.network.specs.Events.{Visit, visits-of}
+
+-- the sum over a list
+unfoldable pub total : {A : Type 0} → (A → ℕ) → List A → ℕ
+total f [] = 0
+total f (x ∷ xs) = f x + total f xs
+
+-- the moves of a path after a step in cell c: how often the cell is another
+unfoldable pub moves-after : ℕ → List ℕ → ℕ
+moves-after c [] = 0
+moves-after c (d ∷ ds) = cond (eqb c d) (moves-after d ds) (suc (moves-after d ds))
+
+-- the moves of a path
+unfoldable pub moves : List ℕ → ℕ
+moves [] = 0
+moves (c ∷ cs) = moves-after c cs
+
+-- a visit among those of all carts: with the number of its cart
+pub record Stop : Type 0 where
+  pub cart : ℕ
+  pub step : ℕ
+  pub cell : ℕ
+
+-- a visit of this cart
+unfoldable pub stop : ℕ → Visit → Stop
+stop j x = record { cart = j; step = x .step; cell = x .cell }
+
+-- the visits of all carts, cart by cart, the first of them number j
+unfoldable pub stops : ℕ → List (List ℕ) → List Stop
+stops j [] = []
+stops j (p ∷ ps) = map (stop j) (visits-of p) ++ stops (suc j) ps
+
+-- whether u is a later visit to v's cell, by a cart that is neither v's nor number k
+unfoldable pub counted : Stop → ℕ → Stop → Bool
+counted v k u = not (eqb (v .cart) (u .cart)) && not (eqb k (u .cart)) && (ltb (v .step) (u .step) && eqb (v .cell) (u .cell))
+
+-- how many other carts visit v's cell later, where number k was counted last: the visits of a cart stand together
+unfoldable pub later-carts : Stop → ℕ → List Stop → ℕ
+later-carts v k [] = 0
+later-carts v k (u ∷ us) = cond (counted v k u) (suc (later-carts v (u .cart) us)) (later-carts v k us)
+
+-- whether the next visit is one of v's cart, so that v is not its last
+unfoldable pub goes-on : Stop → List Stop → Bool
+goes-on v [] = false
+goes-on v (u ∷ us) = eqb (v .cart) (u .cart)
+
+-- the order bounds from these visits on, among all of them
+unfoldable pub orders-from : List Stop → List Stop → ℕ
+orders-from all [] = 0
+orders-from all (v ∷ us) = cond (goes-on v us) (later-carts v 0 all) 0 + orders-from all us
+
+-- of all of them
+unfoldable pub orders-among : List Stop → ℕ
+orders-among all = orders-from all all
+
+-- ---- visits in arrays
+
+-- the i-th visit in three arrays
+unfoldable pub stop-at : List ℕ → List ℕ → List ℕ → ℕ → Stop
+stop-at carts steps cells i = record { cart = getD carts i 0; step = getD steps i 0; cell = getD cells i 0 }
+
+-- n visits, from the i-th on
+unfoldable pub stops-in : List ℕ → List ℕ → List ℕ → ℕ → ℕ → List Stop
+stops-in carts steps cells zero i = []
+stops-in carts steps cells (suc n) i = stop-at carts steps cells i ∷ stops-in carts steps cells n (suc i)
+
+-- ---- visits linked by their cells' remainders
+
+-- of l visits, from the i-th on: how many are left from the first on whose cell has remainder b
+unfoldable pub left-in : List ℕ → ℕ → ℕ → ℕ → ℕ
+left-in cells b zero i = 0
+left-in cells b (suc l) i = cond (eqb (getD cells i 0 % 1024) b) (suc l) (left-in cells b l (suc i))
+
+-- of the last visits of n: each remainder's first, and to each visit the next of its remainder, by how many visits are left from there on
+pub record Linked (cells heads nexts : List ℕ) (n left : ℕ) : Type 0 where
+  pub heads-are : (b : ℕ) → b < 1024 → getD heads b 0 ≡ left-in cells b left (n - left)
+  pub nexts-are : (l : ℕ) → l < left → getD nexts (n - suc l) 0 ≡ left-in cells (getD cells (n - suc l) 0 % 1024) l (n - l)
+
+-- Names every definition of this module, for a proof that computes with them all.
+unfoldable pub open-counts : Unit {0}
+unfolding total moves-after moves stop stops counted later-carts goes-on orders-from orders-among stop-at stops-in left-in
+open-counts = tt

@@ -1,0 +1,225 @@
+// The counts of events and bounds. The visits of all carts are put in a row, cart by cart, in three arrays: the carts' numbers,
+// the steps and the cells.
+ghost use mathlib.Core.Path.{_≡_};
+ghost use mathlib.Core.List.{_++_, map};
+ghost use Prim.Native.Nat.{ℕ, _+_, _*_, _≤_, _<_};
+ghost use lib.ListN.{length, take, drop, getD};
+ghost use Rattle.tables.specs.Arrays.{paths-in};
+ghost use Rattle.network.specs.Events.{visits-of};
+ghost use Rattle.limits.specs.Counts.{total, moves, stop, stops, counted, later-carts, orders-among, stop-at, stops-in, Linked};
+
+// The moves of the path at place `at`.
+fn moves_of(cells: &[u32], at: usize, steps: usize) -> usize
+    requires { ⌜ 1 ≤ steps ⌝ }
+    requires { ⌜ at + steps ≤ length (now cells) ⌝ }
+    ensures { λ r. ⌜ r ≡ moves (take steps (drop at (now (cells .entry)))) ⌝ }
+{
+    let mut c = cells[at];
+    let mut n: usize = 0;
+    let mut s: usize = 1;
+    while s < steps {
+        let d = cells[at + s];
+        if c != d {
+            n += 1;
+        }
+        c = d;
+        s += 1;
+    }
+    n
+}
+
+// The moves of all paths.
+pub(crate) fn all_moves(cells: &[u32], carts: usize, steps: usize) -> usize
+    requires { ⌜ carts ≤ 64 ⌝ }
+    requires { ⌜ 1 ≤ steps ⌝ }
+    requires { ⌜ steps ≤ 1024 ⌝ }
+    requires { ⌜ carts * steps ≤ length (now cells) ⌝ }
+    ensures { λ r. ⌜ r ≡ total moves (paths-in carts steps (now (cells .entry))) ⌝ }
+    ensures { λ r. ⌜ r ≤ 65536 ⌝ }
+{
+    let mut n: usize = 0;
+    let mut i: usize = 0;
+    let mut at: usize = 0;
+    while i < carts {
+        n += moves_of(cells, at, steps);
+        at += steps;
+        i += 1;
+    }
+    n
+}
+
+// Puts the visits of the path at place `at`, a path of cart number j, behind the first n visits of a row.
+fn put_visits(
+    cells: &[u32],
+    at: usize,
+    steps: usize,
+    j: u32,
+    n: usize,
+    numbers: &mut [u32],
+    times: &mut [u32],
+    places: &mut [u32],
+) -> usize
+    requires { ⌜ (1 ≤ steps) × (steps ≤ 1024) × (at + steps ≤ length (now cells)) ⌝ }
+    requires { ⌜ n + moves (take steps (drop at (now cells))) < 1408 ⌝ }
+    requires { ⌜ (length (now numbers) ≡ 1408) × (length (now times) ≡ 1408) × (length (now places) ≡ 1408) ⌝ }
+    ensures { λ r. ⌜ r ≡ n + moves (take steps (drop at (now (cells .entry)))) + 1 ⌝ }
+    ensures { λ r. ⌜ stops-in (now (numbers .exit)) (now (times .exit)) (now (places .exit)) r 0
+        ≡ stops-in (now (numbers .entry)) (now (times .entry)) (now (places .entry)) n 0
+        ++ map (stop j) (visits-of (take steps (drop at (now (cells .entry))))) ⌝ }
+{
+    let mut c = cells[at];
+    numbers[n] = j;
+    times[n] = 0;
+    places[n] = c;
+    let mut m = n + 1;
+    let mut s: usize = 1;
+    while s < steps {
+        let d = cells[at + s];
+        if c != d {
+            numbers[m] = j;
+            times[m] = s as u32;
+            places[m] = d;
+            m += 1;
+        }
+        c = d;
+        s += 1;
+    }
+    m
+}
+
+// Puts the visits of all paths in a row; returns how many there are.
+fn put_all(
+    cells: &[u32],
+    carts: usize,
+    steps: usize,
+    numbers: &mut [u32],
+    times: &mut [u32],
+    places: &mut [u32],
+) -> usize
+    requires { ⌜ (carts ≤ 64) × (1 ≤ steps) × (steps ≤ 1024) × (carts * steps ≤ length (now cells)) ⌝ }
+    requires { ⌜ carts + total moves (paths-in carts steps (now cells)) ≤ 1408 ⌝ }
+    requires { ⌜ (length (now numbers) ≡ 1408) × (length (now times) ≡ 1408) × (length (now places) ≡ 1408) ⌝ }
+    ensures { λ r. ⌜ r ≡ carts + total moves (paths-in carts steps (now (cells .entry))) ⌝ }
+    ensures { λ r. ⌜ stops-in (now (numbers .exit)) (now (times .exit)) (now (places .exit)) r 0
+        ≡ stops 1 (paths-in carts steps (now (cells .entry))) ⌝ }
+{
+    let mut n: usize = 0;
+    let mut i: usize = 0;
+    let mut at: usize = 0;
+    while i < carts {
+        let j = i + 1;
+        n = put_visits(cells, at, steps, j as u32, n, numbers, times, places);
+        at += steps;
+        i = j;
+    }
+    n
+}
+
+// Whether a visit of cart i at step s to cell x is later than one of cart j at step t, to the same cell c, and by a cart that is neither j nor k.
+fn is_counted(j: u32, t: u32, c: u32, k: u32, i: u32, s: u32, x: u32) -> bool
+    ensures { λ r. ⌜ r ≡ counted (record { cart = j; step = t; cell = c }) k (record { cart = i; step = s; cell = x }) ⌝ }
+{
+    if j == i {
+        return false;
+    }
+    if k == i {
+        return false;
+    }
+    if s <= t {
+        return false;
+    }
+    c == x
+}
+
+// Links n visits: to each the next whose cell has the same remainder.
+fn link(places: &[u32], n: usize, heads: &mut [u32], nexts: &mut [u32])
+    requires { ⌜ (n ≤ 1408) × (length (now places) ≡ 1408) × (length (now heads) ≡ 1024) × (length (now nexts) ≡ 1408) ⌝ }
+    requires { ⌜ ((b : ℕ) → b < 1024 → getD (now heads) b 0 ≡ 0) ⌝ }
+    ensures { λ _. ⌜ Linked (now (places .entry)) (now (heads .exit)) (now (nexts .exit)) n n ⌝ }
+{
+    let mut left: usize = 0;
+    while left < n {
+        left += 1;
+        let u = n - left;
+        let b = (places[u] % 1024) as usize;
+        nexts[u] = heads[b];
+        heads[b] = left as u32;
+    }
+}
+
+// How many other carts visit the cell of visit v later. The visits of its remainder are gone through.
+fn others_later(
+    numbers: &[u32],
+    times: &[u32],
+    places: &[u32],
+    heads: &[u32],
+    nexts: &[u32],
+    n: usize,
+    v: usize,
+) -> usize
+    requires { ⌜ (n ≤ 1408) × (v < n) ⌝ }
+    requires { ⌜ (length (now numbers) ≡ 1408) × (length (now times) ≡ 1408) × (length (now places) ≡ 1408) ⌝ }
+    requires { ⌜ (length (now heads) ≡ 1024) × (length (now nexts) ≡ 1408) × Linked (now places) (now heads) (now nexts) n n ⌝ }
+    ensures { λ r. ⌜ r ≡ later-carts (stop-at (now (numbers .entry)) (now (times .entry)) (now (places .entry)) v) 0
+        (stops-in (now (numbers .entry)) (now (times .entry)) (now (places .entry)) n 0) ⌝ }
+{
+    let j = numbers[v];
+    let t = times[v];
+    let c = places[v];
+    let mut k: u32 = 0;
+    let mut count: usize = 0;
+    let mut left = heads[(c % 1024) as usize] as usize;
+    while 0 < left {
+        let u = n - left;
+        let i = numbers[u];
+        if is_counted(j, t, c, k, i, times[u], places[u]) {
+            count += 1;
+            k = i;
+        }
+        left = nexts[u] as usize;
+    }
+    count
+}
+
+// How many order bounds there are among n visits.
+fn orders_among(
+    numbers: &[u32],
+    times: &[u32],
+    places: &[u32],
+    heads: &[u32],
+    nexts: &[u32],
+    n: usize,
+) -> usize
+    requires { ⌜ n ≤ 1408 ⌝ }
+    requires { ⌜ (length (now numbers) ≡ 1408) × (length (now times) ≡ 1408) × (length (now places) ≡ 1408) ⌝ }
+    requires { ⌜ (length (now heads) ≡ 1024) × (length (now nexts) ≡ 1408) × Linked (now places) (now heads) (now nexts) n n ⌝ }
+    ensures { λ r. ⌜ r ≡ orders-among (stops-in (now (numbers .entry)) (now (times .entry)) (now (places .entry)) n 0) ⌝ }
+    ensures { λ r. ⌜ r ≤ 2000000 ⌝ }
+{
+    let mut sum: usize = 0;
+    let mut v: usize = 0;
+    while v + 1 < n {
+        if numbers[v] == numbers[v + 1] {
+            sum += others_later(numbers, times, places, heads, nexts, n, v);
+        }
+        v += 1;
+    }
+    sum
+}
+
+// The order bounds of all paths.
+pub(crate) fn all_orders(cells: &[u32], carts: usize, steps: usize) -> usize
+    requires { ⌜ (carts ≤ 64) × (1 ≤ steps) × (steps ≤ 1024) × (carts * steps ≤ length (now cells)) ⌝ }
+    requires { ⌜ carts + total moves (paths-in carts steps (now cells)) ≤ 1408 ⌝ }
+    ensures { λ r. ⌜ r ≡ orders-among (stops 1 (paths-in carts steps (now (cells .entry)))) ⌝ }
+    ensures { λ r. ⌜ r ≤ 2000000 ⌝ }
+{
+    let mut numbers: [u32; 1408] = [0; 1408];
+    let mut times: [u32; 1408] = [0; 1408];
+    let mut places: [u32; 1408] = [0; 1408];
+    let n = put_all(cells, carts, steps, &mut numbers, &mut times, &mut places);
+    let mut heads: [u32; 1024] = [0; 1024];
+    let mut nexts: [u32; 1408] = [0; 1408];
+    link(&places, n, &mut heads, &mut nexts);
+    orders_among(&numbers, &times, &places, &heads, &nexts, n)
+}

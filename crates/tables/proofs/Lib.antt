@@ -1,0 +1,10 @@
+pub mod Turns
+pub mod FirstLine
+pub mod RoadRecords
+pub mod CartRecords
+pub mod PathRecords
+pub mod PathTurns
+pub mod Searches
+pub mod Found
+pub mod TablesRead
+pub mod RefusalRows

@@ -1,0 +1,344 @@
+-- Searches in arrays: the roads and the paths of an array passed one after the other, and carts held against those before them.
+-- Assumes nothing.
+use Prim.Native.Nat.{ℕ, zero, suc, _+_, _*_, _-_, _≤_, _<_}
+use native.Mathlib.Numerals.{add-one}
+use native.Mathlib.Nat.{mul-le-mul-right, add-mul, zero-mul, suc-mul}
+use native.Mathlib.Omega.{arith}
+use mathlib.Core.Path.{_≡_, refl, ap, sym, _∙_}
+use mathlib.Core.Bool.{Bool, true, false, not, _&&_, _||_, cond}
+use mathlib.Core.List.{List, [], _∷_, map}
+use mathlib.Core.Option.{Option, none, some}
+use borrow.Author.Tests.{eq-eqb, ne-eqb, eqb-true, not-true, not-false}
+use lib.Dec.{eqb}
+use lib.ListN.{length, take, drop, getD, length-take, length-drop, drop-of-length-le}
+use lib.Seq.{length-take-le, take-suc, drop-cons, getD-take, getD-drop, drop-drop}
+use Rattle.floor.specs.Plan.{Road, joins, road-between, joined}
+use Rattle.floor.specs.Refusal.{next}
+use Rattle.floor.specs.Paths.{on-roads, off-road, collides, first-collision, earliest, at-step, steps, Move, exchanged}
+use Rattle.tables.specs.Arrays.{roads-in, paths-in}
+
+-- ---- roads
+
+-- a road joins two cells, or one of the others does
+joined-cons : (r : Road) (rs : List Road) (a b : ℕ) → joined (r ∷ rs) a b ≡ joins a b r || joined rs a b
+unfolding joined road-between
+joined-cons r rs a b = by (joins a b r)
+  where
+    by : (t : Bool) → _≡_ {A = Bool} (elim (cond t (some r) (road-between rs a b)) [ none ↦ false | some r ↦ true ]) (t || joined rs a b)
+    by true = refl
+    by false = refl
+
+-- the road at place i of an array, and those after it
+roads-next : (n i : ℕ) (s : List ℕ) → i < n
+    → roads-in (n - i) (drop (4 * i) s)
+    ≡ record { from = getD s (4 * i) 0; to = getD s (4 * i + 1) 0; length = getD s (4 * i + 2) 0; margin = getD s (4 * i + 3) 0 }
+    ∷ roads-in (n - (i + 1)) (drop (4 * (i + 1)) s)
+unfolding roads-in
+roads-next n i s h =
+    let e : n - i ≡ suc (n - (i + 1)) = omega arith in
+    let first : 4 * i + 0 ≡ 4 * i = omega arith in
+    let more : 4 * i + 4 ≡ 4 * (i + 1) = omega arith in
+    rw e (simp (getD-drop, drop-drop, first, more))
+
+-- the second of two tests is enough
+either : (t : Bool) → t || true ≡ true
+either true = refl
+either false = refl
+
+-- both tests of a road between x and y
+joins-test : ℕ → ℕ → ℕ → ℕ → Bool
+joins-test x y a b = (eqb x a && eqb y b) || (eqb x b && eqb y a)
+
+joins-forth : (x y a b : ℕ) → x ≡ a → y ≡ b → joins-test x y a b ≡ true
+unfolding joins-test
+joins-forth x y a b p q = rw (eq-eqb x a p, eq-eqb y b q)
+
+joins-back : (x y a b : ℕ) → x ≡ b → y ≡ a → joins-test x y a b ≡ true
+unfolding joins-test
+joins-back x y a b p q = rw (eq-eqb x b p, eq-eqb y a q) (either (eqb x a && eqb y b))
+
+both-fail : (x y a b : ℕ) → (x ≡ a → y ≡ b → ⊥) → eqb x a && eqb y b ≡ false
+both-fail x y a b h = by (eqb x a) refl
+  where
+    by : (t : Bool) → eqb x a ≡ t → t && eqb y b ≡ false
+    by true e = ne-eqb y b (h (eqb-true x a e))
+    by false e = refl
+
+joins-neither : (x y a b : ℕ) → (x ≡ a → y ≡ b → ⊥) → (x ≡ b → y ≡ a → ⊥) → joins-test x y a b ≡ false
+unfolding joins-test
+joins-neither x y a b h k = rw (both-fail x y a b h, both-fail x y b a k)
+
+joined-next : (n i : ℕ) (s : List ℕ) (a b : ℕ) (t : Bool) → i < n → joins-test (getD s (4 * i) 0) (getD s (4 * i + 1) 0) a b ≡ t
+    → joined (roads-in (n - i) (drop (4 * i) s)) a b ≡ t || joined (roads-in (n - (i + 1)) (drop (4 * (i + 1)) s)) a b
+unfolding joins joins-test
+joined-next n i s a b t h e = ap (λ (rs : List Road). joined rs a b) (roads-next n i s h) ∙ joined-cons _ _ a b ∙ ap (λ (u : Bool). u || joined (roads-in (n - (i + 1)) (drop (4 * (i + 1)) s)) a b) e
+
+-- a road from a to b
+pub road-forth : (n i : ℕ) (s : List ℕ) (a b : ℕ) → i < n → getD s (4 * i) 0 ≡ a → getD s (4 * i + 1) 0 ≡ b
+    → joined (roads-in (n - i) (drop (4 * i) s)) a b ≡ true
+road-forth n i s a b h p q = joined-next n i s a b true h (joins-forth _ _ a b p q)
+
+-- a road from b to a
+pub road-back : (n i : ℕ) (s : List ℕ) (a b : ℕ) → i < n → getD s (4 * i) 0 ≡ b → getD s (4 * i + 1) 0 ≡ a
+    → joined (roads-in (n - i) (drop (4 * i) s)) a b ≡ true
+road-back n i s a b h p q = joined-next n i s a b true h (joins-back _ _ a b p q)
+
+-- a road that is passed over
+pub road-passed : (n i : ℕ) (s : List ℕ) (a b : ℕ) → i < n → (getD s (4 * i) 0 ≡ a → getD s (4 * i + 1) 0 ≡ b → ⊥)
+    → (getD s (4 * i) 0 ≡ b → getD s (4 * i + 1) 0 ≡ a → ⊥)
+    → joined (roads-in (n - i) (drop (4 * i) s)) a b ≡ joined (roads-in (n - (i + 1)) (drop (4 * (i + 1)) s)) a b
+road-passed n i s a b h f g = joined-next n i s a b false h (joins-neither _ _ a b f g)
+
+-- after the last road
+pub roads-past : (n i : ℕ) (s : List ℕ) (a b : ℕ) → n ≤ i → joined (roads-in (n - i) (drop (4 * i) s)) a b ≡ false
+unfolding roads-in joined road-between
+roads-past n i s a b h = let e : n - i ≡ 0 = omega arith in rw e
+
+-- ---- paths that keep to roads
+
+-- a step on the roads, and those after it
+on-roads-next : (rs : List Road) (p : List ℕ) (k : ℕ) → suc k < length p
+    → on-roads rs (drop k p) ≡ (eqb (getD p k 0) (getD p (suc k) 0) || joined rs (getD p k 0) (getD p (suc k) 0)) && on-roads rs (drop (suc k) p)
+unfolding on-roads
+on-roads-next rs [] k h = absurd (omega arith)
+on-roads-next rs (a ∷ []) k h = absurd (omega arith)
+on-roads-next rs (a ∷ b ∷ cs) zero h = refl
+on-roads-next rs (a ∷ b ∷ cs) (suc k) h = on-roads-next rs (b ∷ cs) k (omega arith)
+
+-- at most one cell has no step
+on-roads-short : (rs : List Road) (p : List ℕ) → length p ≤ 1 → on-roads rs p ≡ true
+unfolding on-roads
+on-roads-short rs [] h = refl
+on-roads-short rs (a ∷ []) h = refl
+on-roads-short rs (a ∷ b ∷ cs) h = absurd (omega arith)
+
+-- the cells from step s on of a path of w cells that begins at a place of an array
+abbrev pub path-from : List ℕ → ℕ → ℕ → ℕ → List ℕ
+path-from cells at w s = drop s (take w (drop at cells))
+
+module _ (rs : List Road) (cells : List ℕ) (at w : ℕ) where
+  -- the step to s, tested, and those after it
+  step-next : (s : ℕ) (t : Bool) → 1 ≤ s → s < w → at + w ≤ length cells
+      → eqb (getD cells (at + s - 1) 0) (getD cells (at + s) 0) || joined rs (getD cells (at + s - 1) 0) (getD cells (at + s) 0) ≡ t
+      → on-roads rs (path-from cells at w (s - 1)) ≡ t && on-roads rs (path-from cells at w (s + 1 - 1))
+  step-next s t least below fits e =
+      let p : List ℕ = take w (drop at cells) in
+      let one : suc (s - 1) ≡ s = omega arith in
+      let same : s + 1 - 1 ≡ s = omega arith in
+      let before : at + (s - 1) ≡ at + s - 1 = omega arith in
+      let long : suc (s - 1) < length p = simp (length-take, length-drop) (omega arith) in
+      let less : s - 1 < w = omega arith in
+      let a : getD p (s - 1) 0 ≡ getD cells (at + s - 1) 0 = rw (getD-take, getD-drop, before) in
+      let b : getD p s 0 ≡ getD cells (at + s) 0 = rw (getD-take, getD-drop) in
+      on-roads-next rs p (s - 1) long ∙ rw (one, same, a, b, e)
+
+  -- a step that stays
+  pub step-stays : (s : ℕ) → 1 ≤ s → s < w → at + w ≤ length cells → getD cells (at + s - 1) 0 ≡ getD cells (at + s) 0
+      → on-roads rs (path-from cells at w (s - 1)) ≡ on-roads rs (path-from cells at w (s + 1 - 1))
+  step-stays s least below fits e = step-next s true least below fits (rw (eq-eqb _ _ e))
+
+  -- a step on a road
+  pub step-on : {r : Bool} (s : ℕ) → 1 ≤ s → s < w → at + w ≤ length cells → r ≡ joined rs (getD cells (at + s - 1) 0) (getD cells (at + s) 0)
+      → not r ≡ false → on-roads rs (path-from cells at w (s - 1)) ≡ on-roads rs (path-from cells at w (s + 1 - 1))
+  step-on {r} s least below fits e t =
+      step-next s true least below fits (rw (← e, not-false r t) (either (eqb (getD cells (at + s - 1) 0) (getD cells (at + s) 0))))
+
+  -- a step off the roads
+  pub step-off : {r : Bool} (s : ℕ) → 1 ≤ s → s < w → at + w ≤ length cells → (getD cells (at + s - 1) 0 ≡ getD cells (at + s) 0 → ⊥)
+      → r ≡ joined rs (getD cells (at + s - 1) 0) (getD cells (at + s) 0) → not r ≡ true → on-roads rs (path-from cells at w (s - 1)) ≡ false
+  step-off {r} s least below fits h e t = step-next s false least below fits (rw (ne-eqb _ _ h, ← e, not-true r t))
+
+  -- after the last step
+  pub steps-past : (s : ℕ) → w ≤ s → on-roads rs (path-from cells at w (s - 1)) ≡ true
+  steps-past s h = on-roads-short rs (path-from cells at w (s - 1)) (simp (length-drop, length-take) (omega arith))
+
+-- ---- paths of an array
+
+-- the cells of path i are among those of n paths
+pub path-fits : (i n w : ℕ) → i < n → i * w + w ≤ n * w
+path-fits i n w h = let e : (i + 1) * w ≤ n * w = mul-le-mul-right w (omega arith) in omega (arith, add-mul i 1 w)
+
+-- the path at a place of an array, tested, and those after it
+off-road-next : (rs : List Road) (n w i at : ℕ) (s : List ℕ) (t : Bool) → i < n → on-roads rs (take w (drop at s)) ≡ t
+    → off-road rs (i + 1) (paths-in (n - i) w (drop at s))
+    ≡ cond t (off-road rs (i + 1 + 1) (paths-in (n - (i + 1)) w (drop (at + w) s))) (some (i + 1))
+unfolding off-road paths-in
+off-road-next rs n w i at s t h e =
+    let l : n - i ≡ suc (n - (i + 1)) = omega arith in
+    let m : suc (i + 1) ≡ i + 1 + 1 = omega arith in
+    rw (l, e, drop-drop, m)
+
+-- a path that keeps to the roads is passed over
+pub path-on : (rs : List Road) (n w i at : ℕ) (s : List ℕ) {r : Bool} → i < n → r ≡ on-roads rs (take w (drop at s)) → not r ≡ false
+    → off-road rs (i + 1) (paths-in (n - i) w (drop at s)) ≡ off-road rs (i + 1 + 1) (paths-in (n - (i + 1)) w (drop (at + w) s))
+path-on rs n w i at s {r} h e t = off-road-next rs n w i at s true h (sym e ∙ not-false r t)
+
+-- one that leaves them is found
+pub path-off : (rs : List Road) (n w i at : ℕ) (s : List ℕ) {r : Bool} → i < n → r ≡ on-roads rs (take w (drop at s)) → not r ≡ true
+    → off-road rs (i + 1) (paths-in (n - i) w (drop at s)) ≡ some (i + 1)
+path-off rs n w i at s {r} h e t = off-road-next rs n w i at s false h (sym e ∙ not-true r t)
+
+-- after the last path
+pub paths-past : (rs : List Road) (n w i at : ℕ) (s : List ℕ) → n ≤ i → off-road rs (i + 1) (paths-in (n - i) w (drop at s)) ≡ none
+unfolding off-road paths-in
+paths-past rs n w i at s h = let e : n - i ≡ 0 = omega arith in rw e
+
+-- ---- collisions
+
+-- what a list of n has at its places
+pub record Placed {A : Type 0} (xs : List A) (n : ℕ) (at : ℕ → A) : Type 0 where
+  pub count : length xs ≡ n
+  pub there : (d : A) (i : ℕ) → i < n → getD xs i d ≡ at i
+
+module _ {A : Type 0} {xs : List A} {n : ℕ} {at : ℕ → A} (f : A → A → Bool) (v : Placed xs n at) where
+  -- the one at place i held against those before it from place k on: the one there, and those after it
+  collides-next : (i k : ℕ) (t : Bool) → k < i → i < n → f (at i) (at k) ≡ t
+      → collides f (at i) (drop k (take i xs)) ≡ t || collides f (at i) (drop (k + 1) (take i xs))
+  unfolding collides
+  collides-next i k t h l e =
+      let below : k < length (take i xs) = simp length-take (omega (arith, v .count)) in
+      let here : getD (take i xs) k (at k) ≡ at k = getD-take i xs k (at k) h ∙ v .there (at k) k (omega arith) in
+      rw (add-one, drop-cons (take i xs) k (at k) below, here, e)
+
+  -- one that the one at place i does not collide with is passed over
+  pub other-passed : (i k : ℕ) → k < i → i < n → f (at i) (at k) ≡ false
+      → collides f (at i) (drop k (take i xs)) ≡ collides f (at i) (drop (k + 1) (take i xs))
+  other-passed i k h l e = collides-next i k false h l e
+
+  -- the one at place i, tested, and those after it
+  first-next : (i : ℕ) (t : Bool) → i < n → collides f (at i) (take i xs) ≡ t
+      → first-collision f (take i xs) (drop i xs) ≡ cond t (some (i + 1)) (first-collision f (take (i + 1) xs) (drop (i + 1) xs))
+  unfolding first-collision next
+  first-next i t h e =
+      let below : i < length xs = omega (arith, v .count) in
+      let here : getD xs i (at i) ≡ at i = v .there (at i) i h in
+      let long : length (take i xs) ≡ i = length-take-le i xs (omega arith) in
+      rw (add-one, drop-cons xs i (at i) below, take-suc xs i (at i) below, here, e, long)
+
+  -- one that collides with none of those before it is passed over
+  pub record-passed : (i k : ℕ) → i < n → i ≤ k → collides f (at i) (take i xs) ≡ collides f (at i) (drop k (take i xs))
+      → first-collision f (take i xs) (drop i xs) ≡ first-collision f (take (i + 1) xs) (drop (i + 1) xs)
+  unfolding collides
+  record-passed i k h l e =
+      let none-left : drop k (take i xs) ≡ [] = drop-of-length-le (take i xs) {i = k} (simp length-take (omega arith)) in
+      first-next i false h (e ∙ rw none-left)
+
+  -- one that collides with the one at place k is found
+  pub record-found : (i k : ℕ) → k < i → i < n → collides f (at i) (take i xs) ≡ collides f (at i) (drop k (take i xs)) → f (at i) (at k) ≡ true
+      → first-collision f (take i xs) (drop i xs) ≡ some (i + 1)
+  record-found i k l h e met = first-next i true h (e ∙ collides-next i k true l h met)
+
+  -- after the last
+  pub records-past : (i : ℕ) → n ≤ i → first-collision f (take i xs) (drop i xs) ≡ none
+  unfolding first-collision
+  records-past i h =
+      let none-left : drop i xs ≡ [] = drop-of-length-le xs {i = i} (omega (arith, v .count)) in
+      rw none-left
+
+-- ---- steps
+
+-- one step, and those after it
+earliest-next : (f : ℕ → Option ℕ) (s n : ℕ) (o : Option ℕ) → f s ≡ o
+    → _≡_ {A = Option ℕ} (earliest f s (suc n)) (elim o [ none ↦ earliest f (suc s) n | some i ↦ some i ])
+unfolding earliest
+earliest-next f s n o e = ap (λ (x : Option ℕ). elim x as (λ _. Option ℕ) [ none ↦ earliest f (suc s) n | some i ↦ some i ]) e
+
+-- a step at which nothing is found is passed over
+pub step-passed : (f : ℕ → Option ℕ) (s n : ℕ) → f s ≡ none → earliest f s (n - s) ≡ earliest f (s + 1) (n - (s + 1))
+unfolding earliest
+step-passed f s n e = by (n - s) refl
+  where
+    by : (m : ℕ) → n - s ≡ m → earliest f s m ≡ earliest f (s + 1) (n - (s + 1))
+    by zero q = let z : n - (s + 1) ≡ 0 = omega arith in rw z
+    by (suc m) q = let z : n - (s + 1) ≡ m = omega arith in rw (z, add-one) (earliest-next f s m none e)
+
+-- what is found at a step is the answer
+pub step-found : (f : ℕ → Option ℕ) (s n i : ℕ) → s < n → f s ≡ some i → earliest f s (n - s) ≡ some i
+unfolding earliest
+step-found f s n i h e = let z : n - s ≡ suc (n - (s + 1)) = omega arith in rw z (earliest-next f s (n - (s + 1)) (some i) e)
+
+-- after the last step
+pub steps-over : (f : ℕ → Option ℕ) (s n : ℕ) → n ≤ s → earliest f s (n - s) ≡ none
+unfolding earliest
+steps-over f s n h = let z : n - s ≡ 0 = omega arith in rw z
+
+-- ---- what the paths of an array have at a step
+
+-- the cells that n paths have at step t
+abbrev pub cells-at : ℕ → ℕ → List ℕ → ℕ → List ℕ
+cells-at n w s t = map (at-step t) (paths-in n w s)
+
+-- of each path
+image-at : {A : Type 0} (g : List ℕ → A) (n w : ℕ) (s : List ℕ) (d : A) (i : ℕ) → i < n
+    → getD (map g (paths-in n w s)) i d ≡ g (take w (drop (i * w) s))
+unfolding paths-in
+image-at g zero w s d i h = absurd (omega arith)
+image-at g (suc n) w s d zero h = rw zero-mul
+image-at g (suc n) w s d (suc i) h =
+    let e : w + i * w ≡ suc i * w = omega (arith, suc-mul i w) in
+    image-at g n w (drop w s) d i (omega arith) ∙ rw (drop-drop, e)
+
+images-count : {A : Type 0} (g : List ℕ → A) (n w : ℕ) (s : List ℕ) → length (map g (paths-in n w s)) ≡ n
+unfolding paths-in
+images-count g zero w s = refl
+images-count g (suc n) w s = ap suc (images-count g n w (drop w s))
+
+-- the cell of path i at step t
+cell-at : (w : ℕ) (s : List ℕ) (i t : ℕ) → t < w → at-step t (take w (drop (i * w) s)) ≡ getD s (i * w + t) 0
+unfolding at-step
+cell-at w s i t h = getD-take w (drop (i * w) s) t 0 h ∙ getD-drop (i * w) s t 0
+
+-- at most w steps, and w if there is a path
+pub steps-most : (n w : ℕ) (s : List ℕ) → steps (paths-in n w s) ≤ w
+unfolding steps paths-in
+steps-most zero w s = omega arith
+steps-most (suc n) w s = simp length-take (omega arith)
+
+pub steps-all : (n w : ℕ) (s : List ℕ) → 0 < n → n * w ≤ length s → steps (paths-in n w s) ≡ w
+unfolding steps paths-in
+steps-all zero w s h l = absurd (omega arith)
+steps-all (suc n) w s h l = length-take-le w s (omega (arith, suc-mul n w))
+
+-- the cells at step t
+pub cells-placed : (n w : ℕ) (s : List ℕ) (t : ℕ) → t < w → Placed (cells-at n w s t) n (λ i. getD s (i * w + t) 0)
+cells-placed n w s t h =
+    record {
+      count = images-count (at-step t) n w s;
+      there = λ d i l. image-at (at-step t) n w s d i l ∙ cell-at w s i t h;
+    }
+
+-- the moves that n paths make from step t
+abbrev pub moves-at : ℕ → ℕ → List ℕ → ℕ → List Move
+moves-at n w s t = map (λ (p : List ℕ). record { before = at-step t p; after = at-step (suc t) p }) (paths-in n w s)
+
+-- the moves to step t
+pub moves-placed : (n w : ℕ) (s : List ℕ) (t : ℕ) → 1 ≤ t → t < w
+    → Placed (moves-at n w s (t - 1)) n (λ i. record { before = getD s (i * w + t - 1) 0; after = getD s (i * w + t) 0 })
+moves-placed n w s t least h = record { count = images-count move n w s; there = λ d i l. image-at move n w s d i l ∙ here i }
+  where
+    move : List ℕ → Move
+    move p = record { before = at-step (t - 1) p; after = at-step (suc (t - 1)) p }
+
+    here : (i : ℕ) → _≡_ {A = Move} (record { before = at-step (t - 1) (take w (drop (i * w) s)); after = at-step (suc (t - 1)) (take w (drop (i * w) s)) })
+        (record { before = getD s (i * w + t - 1) 0; after = getD s (i * w + t) 0 })
+    here i =
+        let one : suc (t - 1) ≡ t = omega arith in
+        let before : i * w + (t - 1) ≡ i * w + t - 1 = omega arith in
+        rw (one, cell-at w s i (t - 1) (omega arith), cell-at w s i t h, before)
+
+-- two moves between the same cells, each the other way
+pub moves-meet : (a b x y : ℕ) → y ≡ a → x ≡ b → exchanged (record { before = a; after = b }) (record { before = x; after = y }) ≡ true
+unfolding exchanged
+moves-meet a b x y p q = rw (eq-eqb a y (sym p), eq-eqb b x (sym q))
+
+-- any other two
+pub moves-pass : (a b x y : ℕ) → (y ≡ a → x ≡ b → ⊥) → exchanged (record { before = a; after = b }) (record { before = x; after = y }) ≡ false
+unfolding exchanged
+moves-pass a b x y h = both-fail a b y x (λ p q. h (sym p) (sym q))
+
+-- a step is passed over, the steps counted from 1
+pub step-to-passed : (f : ℕ → Option ℕ) (s n : ℕ) → 1 ≤ s → f (s - 1) ≡ none
+    → earliest f (s - 1) (n - (s - 1)) ≡ earliest f (s + 1 - 1) (n - (s + 1 - 1))
+step-to-passed f s n least e =
+    let one : s - 1 + 1 ≡ s + 1 - 1 = omega arith in
+    step-passed f (s - 1) n e ∙ ap (λ (j : ℕ). earliest f j (n - j)) one

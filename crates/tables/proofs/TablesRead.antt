@@ -1,0 +1,225 @@
+-- The three tables read one after the other, as the code does: what each way out gives. Assumes nothing.
+use Prim.Native.Nat.{ℕ, _≤_, _<_}
+use native.Mathlib.Omega.{arith}
+use mathlib.Core.Path.{_≡_, refl, ap, sym, _∙_}
+use mathlib.Core.List.{List, [], _∷_, flatMap}
+use mathlib.Core.Bool.{Bool, true, false, true≢false, _&&_}
+use mathlib.Core.Logic.{_⊎_, inl, inr}
+use mathlib.Core.Option.{Option, none, some, Option·some-injective, Option·some-ne-none, Option·none-ne-some}
+use lib.Dec.{leb}
+use lib.ListN.{length, replicate, length-append, length-replicate}
+use borrow.Author.Tests.{le-leb, lt-leb}
+use Rattle.csv.specs.Text.{bytes}
+use Rattle.csv.specs.Records.{records}
+use Rattle.words.specs.Words.{padded}
+use Rattle.floor.specs.declared.Reason.the-variants.{OffRoad, SameCell, Exchange}
+use Rattle.floor.specs.declared.Table.the-variants.{Roads}
+use Rattle.floor.specs.declared.Refusal.{Refusal}
+use Rattle.tables.specs.declared.Reading.{Reading}
+use Rattle.floor.specs.Refusal.{Judged, refused, accepted, _>>=_, _>>_, unless-found, within-bytes, after-first-line}
+use Rattle.floor.specs.Plan.{Road, Cart, Plan}
+use Rattle.floor.specs.Roads.{road, read-roads}
+use Rattle.floor.specs.Carts.{read-carts}
+use Rattle.floor.specs.Paths.{read-paths, off-road, first-same-cell, first-exchange}
+use Rattle.floor.specs.Tables.{Tables, read-tables}
+use Rattle.tables.specs.Arrays.{road-numbers, cart-numbers, path-cells}
+use Rattle.tables.specs.Reading.{apart, read-apart, Arrays, room, Outcome, read-answer, zeros, numbers-of, arrays-judged, reading, read-into}
+use Rattle.floor.proofs.Judging.{refused-not-accepted, accepted-same, bind-accepted, goes-on, ends, kept-in-order}
+use Rattle.tables.proofs.RoadRecords.{road-fits}
+
+-- "1,024 roads": no more are taken
+pub few-roads : (b : List ℕ) (ds : List Road) → read-roads b ≡ accepted ds → length ds ≤ 1024
+unfolding read-roads
+few-roads b ds e =
+    let (_, _, e1) = bind-accepted (within-bytes Roads b) _ ds e in
+    let (rs, _, e2) = bind-accepted (after-first-line (bytes "from,to,length,margin") Roads (records b)) _ ds e1 in
+    kept-in-order road (λ (x : List Road). length x ≤ 1024)
+    (λ before r d h one. let few = road-fits before r d one in omega (arith, few, length-append before (d ∷ []))) rs [] ds (omega arith) e2
+
+-- the plan of what the three tables hold
+abbrev pub plan-of : List Road → List Cart → List (List ℕ) → Plan
+plan-of rs cs ps = record { roads = rs; carts = cs; paths = ps }
+
+-- 7, 8 and 9, and then the plan
+apart-then : (rs : List Road) (cs : List Cart) (ps : List (List ℕ)) →
+    (unless-found (off-road rs 1 ps) OffRoad >> (unless-found (first-same-cell ps) SameCell >> (unless-found (first-exchange ps) Exchange >> accepted (plan-of rs cs ps))))
+    ≡ (apart rs ps >>= λ qs. accepted (plan-of rs cs qs))
+unfolding apart _>>=_ unless-found
+apart-then rs cs ps = by (off-road rs 1 ps) (first-same-cell ps) (first-exchange ps)
+  where
+    by : (a b c : Option ℕ) →
+        (unless-found a OffRoad >> (unless-found b SameCell >> (unless-found c Exchange >> accepted (plan-of rs cs ps))))
+        ≡ ((unless-found a OffRoad >> (unless-found b SameCell >> (unless-found c Exchange >> accepted ps))) >>= λ qs. accepted (plan-of rs cs qs))
+    by (some i) b c = refl
+    by none (some i) c = refl
+    by none none (some i) = refl
+    by none none none = refl
+
+module _ (ts : Tables) where
+  -- the roads are refused
+  pub roads-refused : (r : Refusal) → read-roads (ts .roads) ≡ refused r → read-tables ts ≡ refused r
+  unfolding read-tables
+  roads-refused r e = ends (read-roads (ts .roads)) _ r e
+
+  module _ (rs : List Road) (er : read-roads (ts .roads) ≡ accepted rs) where
+    -- the carts are refused
+    pub carts-refused : (r : Refusal) → read-carts (ts .carts) ≡ refused r → read-tables ts ≡ refused r
+    unfolding read-tables
+    carts-refused r e = goes-on (read-roads (ts .roads)) _ rs er ∙ ends (read-carts (ts .carts)) _ r e
+
+    module _ (cs : List Cart) (ec : read-carts (ts .carts) ≡ accepted cs) where
+      -- the paths say the rest
+      tables-are : read-tables ts ≡ (read-apart rs (length cs) (ts .paths) >>= λ qs. accepted (plan-of rs cs qs))
+      unfolding read-tables read-apart _>>=_
+      tables-are =
+          goes-on (read-roads (ts .roads)) _ rs er ∙ goes-on (read-carts (ts .carts)) _ cs ec ∙ by (read-paths (length cs) (ts .paths))
+        where
+          by : (j : Judged (List (List ℕ))) →
+              (j >>= λ ps. unless-found (off-road rs 1 ps) OffRoad >> (unless-found (first-same-cell ps) SameCell >> (unless-found (first-exchange ps) Exchange >> accepted (plan-of rs cs ps))))
+              ≡ ((j >>= apart rs) >>= λ qs. accepted (plan-of rs cs qs))
+          by (refused r) = refl
+          by (accepted ps) = apart-then rs cs ps
+
+      -- they are refused
+      pub paths-are-refused : (r : Refusal) → read-apart rs (length cs) (ts .paths) ≡ refused r → read-tables ts ≡ refused r
+      paths-are-refused r e = tables-are ∙ ends (read-apart rs (length cs) (ts .paths)) _ r e
+
+      -- they are not
+      pub all-read : (ps : List (List ℕ)) → read-apart rs (length cs) (ts .paths) ≡ accepted ps → read-tables ts ≡ accepted (plan-of rs cs ps)
+      all-read ps e = tables-are ∙ goes-on (read-apart rs (length cs) (ts .paths)) _ ps e
+
+-- the answer, and each array where there is a plan
+abbrev pub EachEnd : Judged Plan → ℕ → ℕ → ℕ → Reading → List ℕ → List ℕ → List ℕ → Type 0
+EachEnd j a b c r edges speeds cells =
+    (r ≡ read-answer j)
+    × (((p : Plan) → j ≡ accepted p → edges ≡ padded a (flatMap road-numbers (p .roads)))
+    × (((p : Plan) → j ≡ accepted p → speeds ≡ padded b (flatMap cart-numbers (p .carts))) × ((p : Plan) → j ≡ accepted p → cells ≡ padded c (path-cells (p .paths)))))
+
+-- of a refusal
+pub each-refused : (j : Judged Plan) (a b c : ℕ) (edges speeds cells : List ℕ) (r : Refusal) → j ≡ refused r → EachEnd j a b c (Reading.Refused r) edges speeds cells
+unfolding read-answer
+each-refused j a b c edges speeds cells r e = (
+  sym (ap read-answer e),
+  (λ p f. absurd (refused-not-accepted r p (sym e ∙ f)), (λ p f. absurd (refused-not-accepted r p (sym e ∙ f)), λ p f. absurd (refused-not-accepted r p (sym e ∙ f)))),
+)
+
+-- of a plan
+pub each-read : (j : Judged Plan) (a b c : ℕ) (edges speeds cells : List ℕ) (p : Plan) → j ≡ accepted p → (r : Reading) → r ≡ read-answer (accepted p)
+    → edges ≡ padded a (flatMap road-numbers (p .roads)) → speeds ≡ padded b (flatMap cart-numbers (p .carts)) → cells ≡ padded c (path-cells (p .paths))
+    → EachEnd j a b c r edges speeds cells
+each-read j a b c edges speeds cells p e r said x y z = (
+  said ∙ sym (ap read-answer e),
+  (
+    λ q f. x ∙ ap (λ (v : Plan). padded a (flatMap road-numbers (v .roads))) (accepted-same p q (sym e ∙ f)),
+    (
+      λ q f. y ∙ ap (λ (v : Plan). padded b (flatMap cart-numbers (v .carts))) (accepted-same p q (sym e ∙ f)),
+      λ q f. z ∙ ap (λ (v : Plan). padded c (path-cells (v .paths))) (accepted-same p q (sym e ∙ f)),
+    ),
+  ),
+)
+
+-- ---- the answers, read back
+
+-- what an answer holds
+answered : Reading → Option Refusal
+answered (Reading.Read n m w) = none
+answered Reading.TooShort = none
+answered (Reading.Refused r) = some r
+
+-- whether it tells of a plan
+tells : Reading → Bool
+tells (Reading.Read n m w) = true
+tells Reading.TooShort = false
+tells (Reading.Refused r) = false
+
+pub answer-refused : (j : Judged Plan) (r : Refusal) → Reading.Refused r ≡ read-answer j → j ≡ refused r
+unfolding read-answer answered
+answer-refused (refused q) r e = ap refused (Option·some-injective _ _ (sym (ap answered e)))
+answer-refused (accepted p) r e = absurd (Option·some-ne-none _ (ap answered e))
+
+pub answer-read : (j : Judged Plan) (n m w : ℕ) → Reading.Read n m w ≡ read-answer j → (p : Plan) × (j ≡ accepted p)
+unfolding read-answer tells
+answer-read (refused q) n m w e = absurd (true≢false (ap tells e))
+answer-read (accepted p) n m w e = (p, refl)
+
+-- a judgement never says that an array is too short
+pub answer-short : (j : Judged Plan) → Reading.TooShort ≡ read-answer j → ⊥
+unfolding read-answer answered tells
+answer-short (refused q) e = Option·none-ne-some _ (ap answered e)
+answer-short (accepted p) e = true≢false (sym (ap tells e))
+
+-- ---- the arrays, all input
+
+-- zeros are as many as there are places
+pub blank : (n : ℕ) (s : List ℕ) → s ≡ replicate n 0 → s ≡ replicate (length s) 0
+blank n s e = e ∙ ap (λ (k : ℕ). replicate k 0) (sym (ap (length {A = ℕ}) e ∙ length-replicate n 0))
+
+-- the answer and the three arrays are those of `read-into`
+module _ (r c p e s k : List ℕ) where
+  abbrev pub Into : Reading → List ℕ → List ℕ → List ℕ → Type 0
+  Into answer edges speeds cells =
+      (answer ≡ read-into r c p e s k .answer)
+      × ((edges ≡ read-into r c p e s k .arrays .roads) × ((speeds ≡ read-into r c p e s k .arrays .carts) × (cells ≡ read-into r c p e s k .arrays .cells)))
+
+  abbrev pub ts : Tables
+  ts = record { roads = r; carts = c; paths = p }
+
+  abbrev arrays : Arrays
+  arrays = record { roads = e; carts = s; cells = k }
+
+  -- an outcome, in four parts
+  parts : (o : Outcome) → read-into r c p e s k ≡ o → Into (o .answer) (o .arrays .roads) (o .arrays .carts) (o .arrays .cells)
+  parts o q = (
+    sym (ap (λ (x : Outcome). x .answer) q),
+    (sym (ap (λ (x : Outcome). x .arrays .roads) q), (sym (ap (λ (x : Outcome). x .arrays .carts) q), sym (ap (λ (x : Outcome). x .arrays .cells) q))),
+  )
+
+  -- no room
+  pub into-short : room arrays ≡ false → Into Reading.TooShort e s k
+  unfolding read-into reading
+  into-short h =
+      parts (record { answer = Reading.TooShort; arrays = arrays })
+      (ap (λ (b : Bool). elim b as (λ _. Outcome) [ false ↦ record { answer = Reading.TooShort; arrays = arrays } | true ↦ record { answer = read-answer (read-tables ts); arrays = arrays-judged arrays (read-tables ts) } ]) h)
+
+  module _ (has : room arrays ≡ true) where
+    -- what a judgement says is answered, and left in the arrays
+    pub into-judged : (j : Judged Plan) → read-tables ts ≡ j → read-into r c p e s k ≡ record { answer = read-answer j; arrays = arrays-judged arrays j }
+    unfolding read-into reading
+    into-judged j q =
+        ap (λ (b : Bool). elim b as (λ _. Outcome) [ false ↦ record { answer = Reading.TooShort; arrays = arrays } | true ↦ record { answer = read-answer (read-tables ts); arrays = arrays-judged arrays (read-tables ts) } ]) has
+        ∙ ap (λ (x : Judged Plan). record { answer = read-answer x; arrays = arrays-judged arrays x }) q
+
+    -- a refusal, and zeros
+    pub into-refused : (why : Refusal) → read-tables ts ≡ refused why → (edges speeds cells : List ℕ)
+        → edges ≡ replicate (length e) 0 → speeds ≡ replicate (length s) 0 → cells ≡ replicate (length k) 0 → Into (Reading.Refused why) edges speeds cells
+    unfolding read-answer arrays-judged zeros
+    into-refused why q edges speeds cells x y z =
+        let (a, (b, (d, f))) = parts _ (into-judged (refused why) q) in (a, (x ∙ b, (y ∙ d, z ∙ f)))
+
+    -- a plan, and its numbers
+    pub into-read : (plan : Plan) → read-tables ts ≡ accepted plan → (answer : Reading) → answer ≡ read-answer (accepted plan) → (edges speeds cells : List ℕ)
+        → edges ≡ padded (length e) (flatMap road-numbers (plan .roads)) → speeds ≡ padded (length s) (flatMap cart-numbers (plan .carts))
+        → cells ≡ padded (length k) (path-cells (plan .paths)) → Into answer edges speeds cells
+    unfolding arrays-judged numbers-of
+    into-read plan q answer said edges speeds cells x y z =
+        let (a, (b, (d, f))) = parts _ (into-judged (accepted plan) q) in (said ∙ a, (x ∙ b, (y ∙ d, z ∙ f)))
+
+-- the room that is asked for
+pub room-for : (e s k : List ℕ) → 4096 ≤ length e → 128 ≤ length s → 8192 ≤ length k → room (record { roads = e; carts = s; cells = k }) ≡ true
+unfolding room
+room-for e s k a b c = simp (le-leb 4096 (length e) a, le-leb 128 (length s) b, le-leb 8192 (length k) c)
+
+-- and where there is less
+pub no-room : (e s k : List ℕ) → (length e < 4096) ⊎ ((length s < 128) ⊎ (length k < 8192)) → room (record { roads = e; carts = s; cells = k }) ≡ false
+unfolding room
+no-room e s k (inl h) = simp (lt-leb 4096 (length e) h)
+no-room e s k (inr (inl h)) = ap (λ (b : Bool). leb 4096 (length e) && b && leb 8192 (length k)) (lt-leb 128 (length s) h) ∙ by (leb 4096 (length e))
+  where
+    by : (a : Bool) → (a && false && leb 8192 (length k)) ≡ false
+    by true = refl
+    by false = refl
+no-room e s k (inr (inr h)) = ap (λ (b : Bool). leb 4096 (length e) && leb 128 (length s) && b) (lt-leb 8192 (length k) h) ∙ by (leb 4096 (length e) && leb 128 (length s))
+  where
+    by : (a : Bool) → (a && false) ≡ false
+    by true = refl
+    by false = refl
