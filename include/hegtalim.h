@@ -1,4 +1,4 @@
-/* Hegtalim from C: the functions of libhegtalim.a, for x86-64. Document 01 says what they mean; docs/ what each slice must hold.
+/* Hegtalim from C: the functions of libhegtalim.a, for x86-64. docs/CALLS.md says what each call gets, answers and leaves.
    A slice is passed as a pointer and the number of its bytes. Pointers are valid and never null, also where the number is 0, and a slice that
    is written overlaps no other. A call keeps no pointer and nothing else when it returns. */
 #ifndef HEGTALIM_H
