@@ -1,0 +1,125 @@
+/* Tables written for tests: a growing text, and plans at the limits of document 01. */
+#ifndef PLANS_H
+#define PLANS_H
+
+#include <stdint.h>
+#include <stdio.h>
+#include <stdlib.h>
+#include <string.h>
+
+/* bytes, with room for a table that is over its limit */
+struct text {
+    size_t length;
+    uint8_t bytes[70000];
+};
+
+struct plan {
+    struct text roads, carts, paths;
+};
+
+static inline void add_bytes(struct text *t, const void *bytes, size_t n) {
+    if (n > sizeof t->bytes - t->length) {
+        fprintf(stderr, "a text of a test is too long\n");
+        exit(2);
+    }
+    memcpy(t->bytes + t->length, bytes, n);
+    t->length += n;
+}
+
+static inline void add(struct text *t, const char *s) { add_bytes(t, s, strlen(s)); }
+
+static inline void add_number(struct text *t, unsigned n) {
+    char digits[16];
+    add_bytes(t, digits, (size_t)snprintf(digits, sizeof digits, "%u", n));
+}
+
+static inline void add_road(struct text *t, unsigned from, unsigned to, unsigned length, unsigned margin) {
+    add_number(t, from);
+    add(t, ",");
+    add_number(t, to);
+    add(t, ",");
+    add_number(t, length);
+    add(t, ",");
+    add_number(t, margin);
+    add(t, "\r\n");
+}
+
+/* the paths of a plan: cell[j][s] is where cart j + 1 is at step s */
+struct steps {
+    unsigned carts, steps;
+    unsigned cell[65][1026];
+};
+
+static inline void add_paths(struct text *t, const struct steps *p) {
+    for (unsigned j = 0; j < p->carts; j++)
+        for (unsigned s = 0; s < p->steps; s++) {
+            add_number(t, p->cell[j][s]);
+            add(t, s + 1 < p->steps ? "," : "\r\n");
+        }
+}
+
+static inline void begin_plan(struct plan *p) {
+    p->roads.length = p->carts.length = p->paths.length = 0;
+    add(&p->roads, "from,to,length,margin\r\n");
+    add(&p->carts, "fastest,slowest\r\n");
+}
+
+static inline void add_carts(struct plan *p, unsigned n, const char *record) {
+    for (unsigned j = 0; j < n; j++)
+        add(&p->carts, record);
+}
+
+/* A corridor of 1,024 roads, cells 60,000 to 61,024, with the longest numbers that a road may have. Each of the carts, at most 64, keeps to 16 cells
+   of its own, goes from the first towards the last and back with `moves` moves in all (the last cart: one less), and then waits: no cart enters a
+   cell of another. */
+static inline void corridor(struct plan *p, unsigned carts, unsigned steps, unsigned moves) {
+    static struct steps way;
+    begin_plan(p);
+    for (unsigned i = 0; i < 1024; i++)
+        add_road(&p->roads, 60000 + i, 60001 + i, 100000000, 49999999);
+    add_carts(p, carts, "20000000,10000000\r\n");
+    way.carts = carts;
+    way.steps = steps;
+    for (unsigned j = 0; j < carts; j++)
+        for (unsigned s = 0; s < steps; s++) {
+            unsigned most = j + 1 < carts ? moves : moves - 1, gone = (s < most ? s : most) % 30;
+            way.cell[j][s] = 60000 + 16 * j + (gone <= 15 ? gone : 30 - gone);
+        }
+    add_paths(&p->paths, &way);
+}
+
+/* The plan at the limits: 1,024 roads, 64 carts, 8,192 path cells; 63 × 21 + 20 = 1,343 moves, so 2 + 64 + 3 × 1,343 = 4,095 events, and one move
+   more would be over 4,096. */
+static inline void plan_at_limits(struct plan *p) { corridor(p, 64, 128, 21); }
+
+/* Carts that take turns in one cell. Cell 0 has a road to the home of each cart, cells 1 to n; round by round, each cart in turn drives to cell 0 and
+   home again, one step each, and when all is done cart 1 makes `more` moves between its home and cell 1000.
+   Bounds: 2 for each cart, 3 for each of the 2 × rounds × n + more moves, and order bounds from each visit to cell 0 to each other cart that comes
+   later: n × (n − 1) in each round but the last, n × (n − 1) ÷ 2 in the last. */
+static inline void turns(struct plan *p, unsigned n, unsigned rounds, unsigned more) {
+    static struct steps way;
+    begin_plan(p);
+    for (unsigned j = 1; j <= n; j++)
+        add_road(&p->roads, 0, j, 1000000, 250000);
+    add_road(&p->roads, 1, 1000, 1000000, 250000);
+    add_carts(p, n, "250000,\r\n");
+    way.carts = n;
+    way.steps = rounds * n + 2 + more;
+    for (unsigned j = 0; j < n; j++)
+        for (unsigned s = 0; s < way.steps; s++) {
+            unsigned turn = s - 1, after = rounds * n + 1;
+            way.cell[j][s] = j + 1;
+            if (s >= 1 && turn < rounds * n && turn % n == j)
+                way.cell[j][s] = 0;
+            if (j == 0 && s > after && (s - after) % 2 == 1)
+                way.cell[j][s] = 1000;
+        }
+    add_paths(&p->paths, &way);
+}
+
+/* the bounds of such a plan */
+static inline unsigned bounds_of_turns(unsigned n, unsigned rounds, unsigned more) {
+    return 2 * n + 3 * (2 * rounds * n + more) + (rounds - 1) * n * (n - 1) + n * (n - 1) / 2;
+}
+
+#endif
