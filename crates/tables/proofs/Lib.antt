@@ -5,5 +5,6 @@ pub mod CartRecords
 pub mod PathRecords
 pub mod PathTurns
 pub mod Searches
+pub mod Indexes
 pub mod Found
 pub mod TablesRead
