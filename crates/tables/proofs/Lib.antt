@@ -5,6 +5,7 @@ pub mod CartRecords
 pub mod PathRecords
 pub mod PathTurns
 pub mod Searches
+pub mod Indexes
 pub mod Found
 pub mod TablesRead
 pub mod RefusalRows

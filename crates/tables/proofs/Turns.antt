@@ -1,6 +1,6 @@
 -- Records judged one after the other, in the turns of a loop: what holds before each turn, and what each way out of a turn gives.
 -- Assumes nothing.
-use Prim.Native.Nat.{ℕ, suc, _+_, _*_, _-_, _≤_, _<_}
+use Prim.Native.Nat.{ℕ, suc, _+_, _*_, _≤_, _<_}
 use native.Mathlib.Nat.{mul-zero, mul-suc}
 use native.Mathlib.Omega.{arith}
 use mathlib.Core.Path.{_≡_, refl, ap, sym, _∙_, subst}
@@ -117,10 +117,6 @@ module _ {A : Type 0} (judge : List A → List ℕ → Judged A) (numbers : A �
   pub refused-ends : (whole : Judged (List A)) (size : ℕ) (s : List ℕ) (r : Refusal) → whole ≡ refused r → Ends whole size (Count.Refused r) s
   unfolding counted
   refused-ends whole size s r e = (sym (ap counted e), λ as′ f. absurd (refused-not-accepted r as′ (sym e ∙ f)))
-
-  -- of a table that says what another says
-  pub ends-as : (whole other : Judged (List A)) (size : ℕ) (r : Count) (s : List ℕ) → whole ≡ other → Ends other size r s → Ends whole size r s
-  ends-as whole other size r s e h = subst (λ (x : Judged (List A)). Ends x size r s) (sym e) h
 
   -- those that the whole accepts stand in the array
   pub stands : (whole : Judged (List A)) (size : ℕ) (s : List ℕ) (before : List A) → whole ≡ accepted before → s ≡ padded size (flatMap numbers before)

@@ -1,2 +1,3 @@
 pub mod Arrays
+pub mod Index
 pub mod Reading

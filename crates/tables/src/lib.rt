@@ -15,6 +15,7 @@ ghost use Rattle.floor.specs.Refusal.{accepted};
 ghost use Rattle.floor.specs.Plan.{Plan};
 ghost use Rattle.floor.specs.Tables.{read-tables};
 ghost use Rattle.tables.specs.Arrays.{road-numbers, cart-numbers, path-cells, roads-in, paths-in};
+ghost use Rattle.tables.specs.Index.{Indexed};
 ghost use Rattle.tables.specs.Reading.{apart, read-apart, paths-read, read-answer, read-into};
 ghost use Rattle.words.specs.Words.{padded};
 
@@ -71,12 +72,32 @@ fn clear(s: &mut [u32])
     }
 }
 
+// Zeros in every place of three arrays.
+fn clear_all(edges: &mut [u32], speeds: &mut [u32], cells: &mut [u32])
+    ensures edges { λ _. ⌜ now (edges .exit) ≡ replicate (length (now (edges .entry))) 0 ⌝ }
+    ensures speeds { λ _. ⌜ now (speeds .exit) ≡ replicate (length (now (speeds .entry))) 0 ⌝ }
+    ensures cells { λ _. ⌜ now (cells .exit) ≡ replicate (length (now (cells .entry))) 0 ⌝ }
+{
+    clear(edges);
+    clear(speeds);
+    clear(cells);
+}
+
 // What is said of paths in an array: refusals 7, 8 and 9.
-fn judge_paths(edges: &[u32], n: usize, cells: &[u32], carts: usize, w: usize) -> PathsRead
+fn judge_paths(
+    edges: &[u32],
+    heads: &[u16],
+    nexts: &[u16],
+    n: usize,
+    cells: &[u32],
+    carts: usize,
+    w: usize,
+) -> PathsRead
     requires { ⌜ (1 ≤ carts) × (4 * n ≤ length (now edges)) × (carts * w ≤ length (now cells)) ⌝ }
+    requires { ⌜ (n ≤ 1024) × (length (now heads) ≡ 1024) × (length (now nexts) ≡ 1024) × Indexed n (now edges) (now heads) (now nexts) ⌝ }
     ensures { λ r. ⌜ r ≡ paths-read (apart (roads-in n (now (edges .entry))) (paths-in carts w (now (cells .entry)))) ⌝ }
 {
-    let off = collisions::off_roads(edges, n, cells, carts, w);
+    let off = collisions::off_roads(edges, heads, nexts, n, cells, carts, w);
     if off != 0 {
         return PathsRead::Refused(Refusal {
             reason: Reason::OffRoad,
@@ -104,15 +125,24 @@ fn judge_paths(edges: &[u32], n: usize, cells: &[u32], carts: usize, w: usize) -
 }
 
 // The table of paths read and held against the n roads and against each other.
-fn read_apart(edges: &[u32], n: usize, table: &[u8], carts: usize, cells: &mut [u32]) -> PathsRead
+fn read_apart(
+    edges: &[u32],
+    heads: &[u16],
+    nexts: &[u16],
+    n: usize,
+    table: &[u8],
+    carts: usize,
+    cells: &mut [u32],
+) -> PathsRead
     requires { ⌜ (1 ≤ carts) × (4 * n ≤ length (now edges)) × (8192 ≤ length (now cells)) × (now cells ≡ replicate (length (now cells)) 0) ⌝ }
+    requires { ⌜ (n ≤ 1024) × (length (now heads) ≡ 1024) × (length (now nexts) ≡ 1024) × Indexed n (now edges) (now heads) (now nexts) ⌝ }
     ensures answer { λ r. ⌜ r ≡ paths-read (read-apart (roads-in n (now (edges .entry))) carts (now (table .entry))) ⌝ }
     ensures left { λ _. ⌜ ((ps : List (List ℕ)) → read-apart (roads-in n (now (edges .entry))) carts (now (table .entry)) ≡ accepted ps → now (cells .exit) ≡ padded (length (now (cells .entry))) (path-cells ps)) ⌝ }
 {
     let x = paths::read_table(table, carts, cells);
     match x {
         PathsRead::Refused(why) => PathsRead::Refused(why),
-        PathsRead::Read(k, w) => judge_paths(edges, n, cells, k, w),
+        PathsRead::Read(k, w) => judge_paths(edges, heads, nexts, n, cells, k, w),
     }
 }
 
@@ -132,7 +162,9 @@ fn read_each(
     ensures speeds { λ _. ⌜ ((p : Plan) → read-tables (record { roads = now (roads .entry); carts = now (carts .entry); paths = now (paths .entry) }) ≡ accepted p → now (speeds .exit) ≡ padded (length (now (speeds .entry))) (flatMap cart-numbers (p .carts))) ⌝ }
     ensures cells { λ _. ⌜ ((p : Plan) → read-tables (record { roads = now (roads .entry); carts = now (carts .entry); paths = now (paths .entry) }) ≡ accepted p → now (cells .exit) ≡ padded (length (now (cells .entry))) (path-cells (p .paths))) ⌝ }
 {
-    let x = roads::read_table(roads, edges);
+    let mut heads: [u16; 1024] = [0; 1024];
+    let mut nexts: [u16; 1024] = [0; 1024];
+    let x = roads::read_table(roads, edges, &mut heads, &mut nexts);
     match x {
         Count::Refused(why) => Reading::Refused(why),
         Count::Read(n) => {
@@ -140,7 +172,7 @@ fn read_each(
             match y {
                 Count::Refused(why) => Reading::Refused(why),
                 Count::Read(m) => {
-                    let z = read_apart(edges, n, paths, m, cells);
+                    let z = read_apart(edges, &heads, &nexts, n, paths, m, cells);
                     match z {
                         PathsRead::Refused(why) => Reading::Refused(why),
                         PathsRead::Read(_, w) => Reading::Read {
@@ -178,15 +210,11 @@ pub fn read_tables(
     if cells.len() < 8_192 {
         return Reading::TooShort;
     }
-    clear(edges);
-    clear(speeds);
-    clear(cells);
+    clear_all(edges, speeds, cells);
     let x = read_each(roads, carts, paths, edges, speeds, cells);
     match x {
         Reading::Refused(why) => {
-            clear(edges);
-            clear(speeds);
-            clear(cells);
+            clear_all(edges, speeds, cells);
             Reading::Refused(why)
         }
         Reading::TooShort => Reading::TooShort,

@@ -27,7 +27,7 @@ off-roads-requires c κs = search needs
 returns : tie.Need-returns
 unfolding paths-read at
 returns c =
-    let a = c .before .before .before .before .args in
+    let a = c .before .before .before .before .before .before .args in
     let rs = roads-in (a .n) (a .edges .now) in
     let ps = paths-in (a .carts) (a .w) (a .cells .now) in
     let off = c .before .off-roads .ensures in
@@ -40,7 +40,7 @@ returns-2 : tie.Need-returns-2
 unfolding paths-read at
 returns-2 c =
     let b = c .before .before in
-    let a = b .before .before .before .before .args in
+    let a = b .before .before .before .before .before .before .args in
     let rs = roads-in (a .n) (a .edges .now) in
     let ps = paths-in (a .carts) (a .w) (a .cells .now) in
     let same = c .before .same-cells .ensures in
@@ -55,7 +55,7 @@ unfolding paths-read at
 returns-3 c =
     let d = c .before .before in
     let b = d .before .before in
-    let a = b .before .before .before .before .args in
+    let a = b .before .before .before .before .before .before .args in
     let rs = roads-in (a .n) (a .edges .now) in
     let ps = paths-in (a .carts) (a .w) (a .cells .now) in
     let swap = c .before .exchanges .ensures in
@@ -68,7 +68,7 @@ unfolding paths-read
 returns-4 c =
     let d = c .before .before in
     let b = d .before .before in
-    let s = b .before .before .before .before in
+    let s = b .before .before .before .before .before .before in
     let a = s .args in
     let rs = roads-in (a .n) (a .edges .now) in
     let ps = paths-in (a .carts) (a .w) (a .cells .now) in

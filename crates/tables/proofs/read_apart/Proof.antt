@@ -42,7 +42,7 @@ on rs carts t size s ps e held k w a b r said =
 -- the paths that were read
 there : (c : tie.After-known-told2) →
     let t = c .before .before .before .before .before in
-    (ps : List (List ℕ)) × (read-paths (t .before .before .before .before .before .args .carts) (t .before .before .before .before .before .args .table .now) ≡ accepted ps)
+    (ps : List (List ℕ)) × (read-paths (t .before .before .before .before .before .before .before .args .carts) (t .before .before .before .before .before .before .before .args .table .now) ≡ accepted ps)
     × (c .before .x2 .given .0 .0 ≡ length ps) × (c .before .x2 .given .0 .1 .0 ≡ steps ps)
 there c = paths-answered _ _ _ (sym (c .before .x2 .given .1) ∙ c .before .before .before .before .before .read-table .ensures .0)
 
@@ -59,11 +59,11 @@ judge-paths-requires : tie.Need-judge-paths-requires
 judge-paths-requires c κs =
     let k = c .before in
     let t = k .before .before .before .before .before in
-    let a = t .before .before .before .before .before in
+    let a = t .before .before .before .before .before .before .before in
     let (ps, e, n, w) = there k in
     let (even, count) = read-paths-sound (a .args .carts) (a .args .table .now) ps e in
     let cells : k .before .x2 .given .0 .0 * k .before .x2 .given .0 .1 .0 ≤ 8192 = subst (λ (x : ℕ). x ≤ 8192) (sym (ap₂ (λ (x y : ℕ). x * y) n w)) (even .few-cells) in
-    (omega (arith, n, count, a .pre .0), a .pre .1, omega (arith, cells, t .read-table .kept .1 .1 .0, a .pre .2))
+    ((omega (arith, n, count, a .pre .0 .0), a .pre .0 .1, omega (arith, cells, t .read-table .kept .1 .1 .0, a .pre .0 .2)), a .pre .1)
 
 same-length : tie.Need-same-length
 same-length c = search needs
@@ -71,7 +71,7 @@ same-length c = search needs
 returns : tie.Need-returns
 returns c =
     let t = c .before .before .before .before .before in
-    let a = t .before .before .before .before .before .args in
+    let a = t .before .before .before .before .before .before .before .args in
     off (roads-in (a .n) (a .edges .now)) (a .carts) (a .table .now) _ _ (c .before .x .given .0 .0) (paths-refused _ _ (sym (c .before .x .given .1) ∙ t .read-table .ensures .0))
 
 same-length-2 : tie.Need-same-length-2
@@ -81,7 +81,7 @@ returns-2 : tie.Need-returns-2
 returns-2 c =
     let k = c .before .before in
     let t = k .before .before .before .before .before in
-    let a = t .before .before .before .before .before .args in
+    let a = t .before .before .before .before .before .before .before .args in
     let (ps, e, n, w) = there k in
     on (roads-in (a .n) (a .edges .now)) (a .carts) (a .table .now) _ _ ps e (t .read-table .ensures .1 ps e) _ _ n w _ (c .judge-paths .ensures)
 

@@ -1,9 +1,9 @@
 -- `tables::read_each` meets its contract: the roads, the carts and the paths, in this order. Assumes nothing.
 use Prim.Native.Nat.{ℕ}
 use native.Mathlib.Omega.{arith}
-use mathlib.Core.Path.{_≡_, ap, ap₂, sym, _∙_}
+use mathlib.Core.Path.{_≡_, ap, ap₂, sym, _∙_, subst}
 use mathlib.Core.List.{List}
-use lib.ListN.{length}
+use lib.ListN.{length, length-replicate}
 use Rattle.tables.specs.declared.Reading.{Reading}
 use Rattle.floor.specs.Refusal.{accepted}
 use Rattle.floor.specs.Plan.{Road, Cart}
@@ -11,6 +11,7 @@ use Rattle.floor.specs.Roads.{read-roads}
 use Rattle.floor.specs.Carts.{read-carts}
 use Rattle.floor.specs.Tables.{Tables, read-tables}
 use Rattle.tables.specs.Arrays.{roads-in}
+use Rattle.tables.specs.Index.{Indexed}
 use Rattle.tables.specs.Reading.{read-apart, read-answer}
 use Rattle.floor.proofs.Accepted.{read-carts-sound}
 use Rattle.tables.proofs.FirstLine.{counted-read, counted-refused}
@@ -26,25 +27,25 @@ abbrev tables : tie.Start → Tables
 tables s = record { roads = s .args .roads .now; carts = s .args .carts .now; paths = s .args .paths .now }
 
 abbrev start-1 : tie.After-read-table → tie.Start
-start-1 t = t .before .before .before .before .before .before .before .before
+start-1 t = t .before .before .before .before .before .before .before .before .before .before
 
 abbrev start-2 : tie.After-read-table2 → tie.Start
-start-2 t = start-1 (t .before .before .before .before .before .before .before)
+start-2 t = start-1 (t .before .before .before .before .before .before .before .before .before)
 
 abbrev start-3 : tie.After-read-apart → tie.Start
-start-3 t = start-2 (t .before .before .before .before .before .before .before .before)
+start-3 t = start-2 (t .before .before .before .before .before .before .before .before .before .before)
 
 -- the roads that were read
 roads-there : (c : tie.After-known-told2) →
-    (rs : List Road) × (read-roads (start-1 (c .before .before .before .before .before) .args .roads .now) ≡ accepted rs) × (length rs ≡ c .before .x2 .given .0 .0)
-roads-there c = counted-read _ _ (sym (c .before .x2 .given .1) ∙ c .before .before .before .before .before .read-table .ensures .0)
+    (rs : List Road) × (read-roads (start-1 (c .before .before .before .before .before .before .before) .args .roads .now) ≡ accepted rs) × (length rs ≡ c .before .x2 .given .0 .0)
+roads-there c = counted-read _ _ (sym (c .before .x2 .given .1) ∙ c .before .before .before .before .before .before .before .read-table .ensures .0)
 
 -- as their array holds them
-roads-are : (c : tie.After-known-told2) → roads-in (c .before .x2 .given .0 .0) (c .before .before .before .before .before .read-table .last .1 .0) ≡ roads-there c .0
+roads-are : (c : tie.After-known-told2) → roads-in (c .before .x2 .given .0 .0) (c .before .before .before .before .before .before .before .read-table .last .1 .0) ≡ roads-there c .0
 roads-are c =
     let (rs, e, n) = roads-there c in
-    let t = c .before .before .before .before .before in
-    ap (λ (k : ℕ). roads-in k (t .read-table .last .1 .0)) (sym n) ∙ ap (roads-in (length rs)) (t .read-table .ensures .1 rs e) ∙ roads-held _ rs
+    let t = c .before .before .before .before .before .before .before in
+    ap (λ (k : ℕ). roads-in k (t .read-table .last .1 .0)) (sym n) ∙ ap (roads-in (length rs)) (t .read-table .ensures .1 .0 rs e) ∙ roads-held _ rs
 
 -- the carts
 carts-there : (c : tie.After-known-told4) →
@@ -53,14 +54,20 @@ carts-there c = counted-read _ _ (sym (c .before .y2 .given .1) ∙ c .before .b
 
 -- what was said of the paths
 paths-said : (c : tie.After-read-apart) →
-    let k = c .before .before .before in
+    let k = c .before .before .before .before .before in
     let r = k .before .before .before .before .before .before .before in
-    read-apart (roads-in (r .before .x2 .given .0 .0) (r .before .before .before .before .before .read-table .last .1 .0)) (k .before .y2 .given .0 .0) (start-3 c .args .paths .now)
+    read-apart (roads-in (r .before .x2 .given .0 .0) (r .before .before .before .before .before .before .before .read-table .last .1 .0)) (k .before .y2 .given .0 .0) (start-3 c .args .paths .now)
     ≡ read-apart (roads-there r .0) (length (carts-there k .0)) (start-3 c .args .paths .now)
 paths-said c =
-    let k = c .before .before .before in
+    let k = c .before .before .before .before .before in
     let r = k .before .before .before .before .before .before .before in
     ap₂ (λ (x : List Road) (n : ℕ). read-apart x n (start-3 c .args .paths .now)) (roads-are r) (sym (carts-there k .2))
+
+slice-aggregate-read-table : tie.Need-slice-aggregate-read-table
+slice-aggregate-read-table c = search needs
+
+slice-aggregate-read-table-2 : tie.Need-slice-aggregate-read-table-2
+slice-aggregate-read-table-2 c = search needs
 
 read-table-requires : tie.Need-read-table-requires
 read-table-requires c κs = search needs
@@ -80,16 +87,30 @@ enum-known-y c = search needs
 enum-known-y-2 : tie.Need-enum-known-y-2
 enum-known-y-2 c = search needs
 
+slice-aggregate-read-apart : tie.Need-slice-aggregate-read-apart
+slice-aggregate-read-apart c = search needs
+
+slice-aggregate-read-apart-2 : tie.Need-slice-aggregate-read-apart-2
+slice-aggregate-read-apart-2 c = search needs
+
 read-apart-requires : tie.Need-read-apart-requires
 read-apart-requires c κs =
-    let k = c .before .before in
+    let k = c .before .before .before .before in
     let r = k .before .before .before .before .before .before .before in
-    let t = r .before .before .before .before .before in
+    let t = r .before .before .before .before .before .before .before in
     let s = start-1 t in
     let (rs, er, n) = roads-there r in
     let (cs, ec, m) = carts-there k in
     let (_, _, some) = read-carts-sound (s .args .carts .now) cs ec in
-    (omega (arith, some, m), omega (arith, n, few-roads (s .args .roads .now) rs er, t .read-table .kept .1 .0, s .pre .0 .0), s .pre .0 .2, s .pre .1 .2)
+    let few = few-roads (s .args .roads .now) rs er in (
+      (omega (arith, some, m), omega (arith, n, few, t .read-table .kept .1 .0, s .pre .0 .0), s .pre .0 .2, s .pre .1 .2),
+      (
+        omega (arith, n, few),
+        t .read-table .kept .1 .1 .0 ∙ length-replicate {A = ℕ} 1024 0,
+        t .read-table .kept .1 .1 .1 .0 ∙ length-replicate {A = ℕ} 1024 0,
+        subst (λ (k : ℕ). Indexed k (t .read-table .last .1 .0) (t .read-table .last .1 .1 .0) (t .read-table .last .1 .1 .1 .0)) n (t .read-table .ensures .1 .1 rs er),
+      ),
+    )
 
 enum-known-z : tie.Need-enum-known-z
 enum-known-z c = search needs
@@ -102,7 +123,7 @@ same-length c = search needs
 
 returns : tie.Need-returns
 returns c =
-    let t = c .before .before .before .before .before in
+    let t = c .before .before .before .before .before .before .before in
     let ts = tables (start-1 t) in
     each-refused (read-tables ts) _ _ _ _ _ _ _ (roads-refused ts _ (counted-refused _ _ (sym (c .before .x .given .1) ∙ t .read-table .ensures .0)))
 
@@ -131,7 +152,7 @@ same-length-6 c = search needs
 returns-3 : tie.Need-returns-3
 returns-3 c =
     let t = c .before .before .before .before .before in
-    let k = t .before .before .before in
+    let k = t .before .before .before .before .before in
     let ts = tables (start-3 t) in
     let (rs, er, _) = roads-there (k .before .before .before .before .before .before .before) in
     let (cs, ec, _) = carts-there k in
@@ -151,7 +172,7 @@ returns-4 : tie.Need-returns-4
 unfolding read-answer
 returns-4 c =
     let t = c .before .before .before .before .before in
-    let k = t .before .before .before in
+    let k = t .before .before .before .before .before in
     let r = k .before .before .before .before .before .before .before in
     let ts = tables (start-3 t) in
     let (rs, er, n) = roads-there r in
@@ -159,18 +180,22 @@ returns-4 c =
     let (ps, ep, _, w) = paths-answered _ _ _ (sym (c .before .z2 .given .1) ∙ t .read-apart .ensures .0) in
     each-read (read-tables ts) _ _ _ _ _ _ (plan-of rs cs ps) (all-read ts rs er cs ec ps (sym (paths-said t) ∙ ep)) _
     (ap₂ (λ (x y : ℕ). Reading.Read x y (c .before .z2 .given .0 .1 .0)) (sym n) (sym m) ∙ ap (Reading.Read (length rs) (length cs)) w)
-    (r .before .before .before .before .before .read-table .ensures .1 rs er) (k .before .before .before .before .before .read-table2 .ensures .1 cs ec) (t .read-apart .ensures .1 ps ep)
+    (r .before .before .before .before .before .before .before .read-table .ensures .1 .0 rs er) (k .before .before .before .before .before .read-table2 .ensures .1 cs ec) (t .read-apart .ensures .1 ps ep)
 
 pub read-each-spec : {M : Type 1} → statement M
 read-each-spec =
     tie.close
     (tie.spec
+    slice-aggregate-read-table
+    slice-aggregate-read-table-2
     read-table-requires
     enum-known-x
     enum-known-x-2
     read-table-requires-2
     enum-known-y
     enum-known-y-2
+    slice-aggregate-read-apart
+    slice-aggregate-read-apart-2
     read-apart-requires
     enum-known-z
     enum-known-z-2

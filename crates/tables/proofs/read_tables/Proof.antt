@@ -18,17 +18,11 @@ use Rattle.tables.proofs.read_tables.Tie as tie
 abbrev start-1 : tie.Else3 → tie.Start
 start-1 c = c .before .before .before .before .before .before .before .before .before
 
-abbrev cleared : tie.After-read-each → tie.After-clear3
-cleared c = c .before .before .before .before .before .before
+abbrev cleared : tie.After-read-each → tie.After-clear-all
+cleared c = c .before .before .before .before .before .before .before .before .before .before
 
-abbrev cleared-2 : tie.After-clear3 → tie.After-clear2
-cleared-2 c = c .before .before .before .before
-
-abbrev cleared-1 : tie.After-clear2 → tie.After-clear
-cleared-1 c = c .before .before .before .before
-
-abbrev start : tie.After-clear3 → tie.Start
-start c = start-1 (cleared-1 (cleared-2 c) .before .before)
+abbrev start : tie.After-clear-all → tie.Start
+start c = start-1 (c .before .before .before .before)
 
 abbrev said : tie.After-slice-known9 → tie.After-read-each
 said c = c .before .before .before .before .before .before
@@ -49,53 +43,40 @@ returns-3 c =
     into-short _ _ _ _ _ _ (no-room (a .edges .now) (a .speeds .now) (a .cells .now) (inr (inr (c .if3 .taken))))
 
 -- there is room
-has : (c : tie.After-clear3) → room (record { roads = start c .args .edges .now; carts = start c .args .speeds .now; cells = start c .args .cells .now }) ≡ true
+has : (c : tie.After-clear-all) → room (record { roads = start c .args .edges .now; carts = start c .args .speeds .now; cells = start c .args .cells .now }) ≡ true
 has c =
-    let o = cleared-1 (cleared-2 c) .before .before in
+    let o = c .before .before .before .before in
     room-for _ _ _ (o .before .before .if1 .left) (o .before .if2 .left) (o .if3 .left)
 
 -- an array that is cleared is as long as before
 as-long : (n : ℕ) (s : List ℕ) → s ≡ replicate n 0 → length s ≡ n
 as-long n s e = ap (length {A = ℕ}) e ∙ length-replicate n 0
 
-clear-requires : tie.Need-clear-requires
-clear-requires c κs = search needs
-
-clear-requires-2 : tie.Need-clear-requires-2
-clear-requires-2 c κs = search needs
-
-clear-requires-3 : tie.Need-clear-requires-3
-clear-requires-3 c κs = search needs
+clear-all-requires : tie.Need-clear-all-requires
+clear-all-requires c κs = search needs
 
 read-each-requires : tie.Need-read-each-requires
 read-each-requires c κs =
-    let t = c .before .before .before .before .before in
-    let u = cleared-2 t in
-    let v = cleared-1 u in
-    let o = v .before .before in (
+    let t = c .before .before .before .before .before .before .before .before .before in
+    let e = t .clear-all .ensures in
+    let o = t .before .before .before .before in (
       (
-        omega (arith, ap (length {A = ℕ}) (v .clear .ensures), length-replicate {A = ℕ} (length (start t .args .edges .now)) 0, o .before .before .if1 .left),
-        omega (arith, ap (length {A = ℕ}) (u .clear2 .ensures), length-replicate {A = ℕ} (length (start t .args .speeds .now)) 0, o .before .if2 .left),
-        omega (arith, ap (length {A = ℕ}) (t .clear3 .ensures), length-replicate {A = ℕ} (length (start t .args .cells .now)) 0, o .if3 .left),
+        omega (arith, ap (length {A = ℕ}) (e .0), length-replicate {A = ℕ} (length (start t .args .edges .now)) 0, o .before .before .if1 .left),
+        omega (arith, ap (length {A = ℕ}) (e .1 .0), length-replicate {A = ℕ} (length (start t .args .speeds .now)) 0, o .before .if2 .left),
+        omega (arith, ap (length {A = ℕ}) (e .1 .1), length-replicate {A = ℕ} (length (start t .args .cells .now)) 0, o .if3 .left),
       ),
       (
-        blank (length (start t .args .edges .now)) _ (v .clear .ensures),
-        blank (length (start t .args .speeds .now)) _ (u .clear2 .ensures),
-        blank (length (start t .args .cells .now)) _ (t .clear3 .ensures),
+        blank (length (start t .args .edges .now)) _ (e .0),
+        blank (length (start t .args .speeds .now)) _ (e .1 .0),
+        blank (length (start t .args .cells .now)) _ (e .1 .1),
       ),
     )
 
 enum-known-x : tie.Need-enum-known-x
 enum-known-x c = search needs
 
-clear-requires-4 : tie.Need-clear-requires-4
-clear-requires-4 c κs = search needs
-
-clear-requires-5 : tie.Need-clear-requires-5
-clear-requires-5 c κs = search needs
-
-clear-requires-6 : tie.Need-clear-requires-6
-clear-requires-6 c κs = search needs
+clear-all-requires-2 : tie.Need-clear-all-requires-2
+clear-all-requires-2 c κs = search needs
 
 enum-told : tie.Need-enum-told
 enum-told c = search needs
@@ -114,18 +95,18 @@ same-length-3 c = search needs
 
 returns-4 : tie.Need-returns-4
 returns-4 c =
-    let u = c .before .before in
-    let v = u .before .before .before .before in
-    let w = v .before .before .before .before in
-    let k = w .before .before in
+    let w = c .before .before .before .before .before .before in
+    let k = w .before .before .before .before in
+    let f = w .clear-all2 .ensures in
     let r = said (k .before .before .before) in
     let t = cleared r in
     let a = start t .args in
+    let e = t .clear-all .ensures in
     into-refused (a .roads .now) (a .carts .now) (a .paths .now) (a .edges .now) (a .speeds .now) (a .cells .now) (has t) _
     (answer-refused _ _ (sym (k .before .x .given .1) ∙ r .read-each .ensures .0)) _ _ _
-    (w .clear4 .ensures ∙ ap (λ (n : ℕ). replicate n 0) (r .read-each .kept .1 .1 .1 .0 ∙ as-long (length (a .edges .now)) _ (cleared-1 (cleared-2 t) .clear .ensures)))
-    (v .clear5 .ensures ∙ ap (λ (n : ℕ). replicate n 0) (r .read-each .kept .1 .1 .1 .1 .0 ∙ as-long (length (a .speeds .now)) _ (cleared-2 t .clear2 .ensures)))
-    (u .clear6 .ensures ∙ ap (λ (n : ℕ). replicate n 0) (r .read-each .kept .1 .1 .1 .1 .1 .0 ∙ as-long (length (a .cells .now)) _ (t .clear3 .ensures)))
+    (f .0 ∙ ap (λ (n : ℕ). replicate n 0) (r .read-each .kept .1 .1 .1 .0 ∙ as-long (length (a .edges .now)) _ (e .0)))
+    (f .1 .0 ∙ ap (λ (n : ℕ). replicate n 0) (r .read-each .kept .1 .1 .1 .1 .0 ∙ as-long (length (a .speeds .now)) _ (e .1 .0)))
+    (f .1 .1 ∙ ap (λ (n : ℕ). replicate n 0) (r .read-each .kept .1 .1 .1 .1 .1 .0 ∙ as-long (length (a .cells .now)) _ (e .1 .1)))
 
 same-length-4 : tie.Need-same-length-4
 same-length-4 c = search needs
@@ -155,12 +136,13 @@ returns-6 c =
     let r = said (c .before .before .before) in
     let t = cleared r in
     let a = start t .args in
-    let (p, e) = answer-read _ _ _ _ (sym (c .before .x2 .given .1) ∙ r .read-each .ensures .0) in
-    into-read (a .roads .now) (a .carts .now) (a .paths .now) (a .edges .now) (a .speeds .now) (a .cells .now) (has t) p e _
-    (sym (c .before .x2 .given .1) ∙ r .read-each .ensures .0 ∙ ap read-answer e) _ _ _
-    (r .read-each .ensures .1 .0 p e ∙ ap (λ (n : ℕ). padded n (flatMap road-numbers (p .roads))) (as-long (length (a .edges .now)) _ (cleared-1 (cleared-2 t) .clear .ensures)))
-    (r .read-each .ensures .1 .1 .0 p e ∙ ap (λ (n : ℕ). padded n (flatMap cart-numbers (p .carts))) (as-long (length (a .speeds .now)) _ (cleared-2 t .clear2 .ensures)))
-    (r .read-each .ensures .1 .1 .1 p e ∙ ap (λ (n : ℕ). padded n (path-cells (p .paths))) (as-long (length (a .cells .now)) _ (t .clear3 .ensures)))
+    let e = t .clear-all .ensures in
+    let (p, q) = answer-read _ _ _ _ (sym (c .before .x2 .given .1) ∙ r .read-each .ensures .0) in
+    into-read (a .roads .now) (a .carts .now) (a .paths .now) (a .edges .now) (a .speeds .now) (a .cells .now) (has t) p q _
+    (sym (c .before .x2 .given .1) ∙ r .read-each .ensures .0 ∙ ap read-answer q) _ _ _
+    (r .read-each .ensures .1 .0 p q ∙ ap (λ (n : ℕ). padded n (flatMap road-numbers (p .roads))) (as-long (length (a .edges .now)) _ (e .0)))
+    (r .read-each .ensures .1 .1 .0 p q ∙ ap (λ (n : ℕ). padded n (flatMap cart-numbers (p .carts))) (as-long (length (a .speeds .now)) _ (e .1 .0)))
+    (r .read-each .ensures .1 .1 .1 p q ∙ ap (λ (n : ℕ). padded n (path-cells (p .paths))) (as-long (length (a .cells .now)) _ (e .1 .1)))
 
 pub read-tables-spec : {M : Type 1} → statement M
 read-tables-spec =
@@ -169,14 +151,10 @@ read-tables-spec =
     returns
     returns-2
     returns-3
-    clear-requires
-    clear-requires-2
-    clear-requires-3
+    clear-all-requires
     read-each-requires
     enum-known-x
-    clear-requires-4
-    clear-requires-5
-    clear-requires-6
+    clear-all-requires-2
     enum-told
     enum-known-x-2
     same-length

@@ -12,12 +12,12 @@ use Rattle.tables.proofs.collisions.keeps_to_roads.Statement.{statement
 use Rattle.tables.proofs.collisions.keeps_to_roads.Tie as tie
 
 abbrev Inv-loop : tie.InvT-loop
-Inv-loop roads n cells at w s₀ s =
+Inv-loop roads heads nexts n cells at w s₀ s =
     (1 ≤ s)
     × (on-roads (roads-in n roads) (take w (drop at cells)) ≡ on-roads (roads-in n roads) (path-from cells at w (s - 1)))
 
 abbrev μ-loop : tie.MeasureT-loop
-μ-loop roads n cells at w s₀ s = w - s
+μ-loop roads heads nexts n cells at w s₀ s = w - s
 
 loop-holds : tie.Need-loop-holds Inv-loop μ-loop
 loop-holds c = (omega arith, refl)
@@ -44,12 +44,14 @@ shared-slice-read-b : tie.Need-shared-slice-read-b Inv-loop μ-loop
 shared-slice-read-b c = omega arith
 
 is-joined-requires : tie.Need-is-joined-requires Inv-loop μ-loop
-is-joined-requires c κs = omega arith
+is-joined-requires c κs =
+    let p = c .before .before .before .before .before .before .before .before .before .pre in
+    ((p .1 .0, p .0 .0), (p .1 .1, p .1 .2, p .1 .3))
 
 returns : tie.Need-returns Inv-loop μ-loop
 returns c =
     let l = c .before .before .before .before .before .before in
-    let a = l .before .before .before .args in
+    let a = l .before .before .before .before .before .args in
     sym (l .loop .inv .1 ∙ step-off _ (a .cells .now) (a .at) (a .w) (l .loop .s) (omega arith) (omega arith) (omega arith) (c .before .before .if1 .taken) (c .before .is-joined .ensures) (c .if2 .taken))
 
 add-s : tie.Need-add-s Inv-loop μ-loop
@@ -61,7 +63,7 @@ loop-less c = omega arith
 loop-again : tie.Need-loop-again Inv-loop μ-loop
 loop-again c =
     let l = c .before .before .before .before in
-    let a = l .before .before .before .args in (
+    let a = l .before .before .before .before .before .args in (
       omega arith,
       l .loop .inv .1 ∙ ⊎-elim
           (λ w. step-on _ (a .cells .now) (a .at) (a .w) (l .loop .s) (omega arith) (omega arith) (omega arith) (w .1 .ensures) (w .2 .left))
@@ -72,7 +74,7 @@ loop-again c =
 returns-2 : tie.Need-returns-2 Inv-loop μ-loop
 returns-2 c =
     let l = c .before in
-    let a = l .before .before .before .args in
+    let a = l .before .before .before .before .before .args in
     sym (l .loop .inv .1 ∙ steps-past _ (a .cells .now) (a .at) (a .w) (l .loop .s) (c .loop-test .left))
 
 pub keeps-to-roads-spec : {M : Type 1} → statement M

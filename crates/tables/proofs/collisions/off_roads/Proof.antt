@@ -14,21 +14,23 @@ use Rattle.tables.proofs.collisions.off_roads.Statement.{statement}
 use Rattle.tables.proofs.collisions.off_roads.Tie as tie
 
 abbrev Inv-loop : tie.InvT-loop
-Inv-loop roads n cells carts w i₀ at₀ i at =
+Inv-loop roads heads nexts n cells carts w i₀ at₀ i at =
     (i ≤ carts)
     × (at ≡ i * w)
     × (off-road (roads-in n roads) 1 (paths-in carts w cells) ≡ off-road (roads-in n roads) (i + 1) (paths-in (carts - i) w (drop at cells)))
 
 abbrev μ-loop : tie.MeasureT-loop
-μ-loop roads n cells carts w i₀ at₀ i at = carts - i
+μ-loop roads heads nexts n cells carts w i₀ at₀ i at = carts - i
 
 loop-holds : tie.Need-loop-holds Inv-loop μ-loop
 loop-holds c = (omega arith, omega arith, simp unary-clauses)
 
 keeps-to-roads-requires : tie.Need-keeps-to-roads-requires Inv-loop μ-loop
 keeps-to-roads-requires c κs =
-    let a = c .before .before .before .before .args in
-    omega (arith, path-fits (c .before .loop .i) (a .carts) (a .w) (c .loop-test .taken))
+    let z = c .before .before .before .before .before .before in
+    let a = z .args in
+    let fits : c .before .loop .i * a .w + a .w ≤ a .carts * a .w = path-fits (c .before .loop .i) (a .carts) (a .w) (c .loop-test .taken) in
+    ((z .pre .0 .0, omega arith), z .pre .1)
 
 add-result : tie.Need-add-result Inv-loop μ-loop
 add-result c = omega arith
@@ -37,14 +39,14 @@ returns : tie.Need-returns Inv-loop μ-loop
 unfolding found
 returns c =
     let l = c .before .before .before in
-    let a = l .before .before .before .args in
+    let a = l .before .before .before .before .before .args in
     sym (ap found (l .loop .inv .2 ∙ path-off _ (a .carts) (a .w) (l .loop .i) (l .loop .at) (a .cells .now) (omega arith)
     (c .before .keeps-to-roads .ensures) (c .if1 .taken)))
 
 add-at : tie.Need-add-at Inv-loop μ-loop
 add-at c =
     let l = c .before .before .before in
-    let a = l .before .before .before .args in
+    let a = l .before .before .before .before .before .args in
     omega (arith, path-fits (l .loop .i) (a .carts) (a .w) (c .before .before .loop-test .taken))
 
 add-i : tie.Need-add-i Inv-loop μ-loop
@@ -56,7 +58,7 @@ loop-less c = omega arith
 loop-again : tie.Need-loop-again Inv-loop μ-loop
 loop-again c =
     let l = c .before .before .before in
-    let a = l .before .before .before .args in (
+    let a = l .before .before .before .before .before .args in (
       omega arith,
       omega (arith, add-mul (l .loop .i) 1 (a .w)),
       l .loop .inv .2 ∙ path-on _ (a .carts) (a .w) (l .loop .i) (l .loop .at) (a .cells .now) (omega arith)
@@ -67,7 +69,7 @@ returns-2 : tie.Need-returns-2 Inv-loop μ-loop
 unfolding found
 returns-2 c =
     let l = c .before in
-    let a = l .before .before .before .args in
+    let a = l .before .before .before .before .before .args in
     sym (ap found (l .loop .inv .2 ∙ paths-past _ (a .carts) (a .w) (l .loop .i) (l .loop .at) (a .cells .now) (c .loop-test .left)))
 
 pub off-roads-spec : {M : Type 1} → statement M

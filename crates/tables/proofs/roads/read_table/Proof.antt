@@ -13,10 +13,9 @@ use Rattle.floor.specs.declared.Reason.the-variants.{Layout, Limit}
 use Rattle.floor.specs.declared.Table.the-variants.{Roads}
 use Rattle.floor.specs.Refusal.{refused, within-bytes, after-first-line, records-in-order}
 use Rattle.floor.specs.Roads.{road, read-roads}
-use Rattle.tables.specs.Arrays.{road-numbers}
 use Rattle.floor.proofs.Judging.{goes-on, ends}
 use Rattle.tables.proofs.FirstLine.{at-none, bytes-over, bytes-within, line-other, line-there}
-use Rattle.tables.proofs.Turns.{refused-ends, ends-as}
+use Rattle.tables.proofs.Indexes.{no-roads, roads-as}
 use Rattle.tables.proofs.roads.read_table.Statement.{statement}
 use Rattle.tables.proofs.roads.read_table.Tie as tie
 
@@ -42,8 +41,8 @@ after b h e =
 
 returns : tie.Need-returns
 returns c =
-    let a = c .before .before .before .args in
-    refused-ends road road-numbers (read-roads (a .table .now)) _ _ _ (over (a .table .now) (c .if1 .taken))
+    let a = c .before .before .before .before .before .args in
+    no-roads (read-roads (a .table .now)) _ _ _ _ _ (over (a .table .now) (c .if1 .taken))
 
 slice-aggregate-same-bytes : tie.Need-slice-aggregate-same-bytes
 slice-aggregate-same-bytes c = search needs
@@ -55,14 +54,14 @@ same-bytes-requires : tie.Need-same-bytes-requires
 same-bytes-requires c κs = search needs
 
 -- what was compared
-named : (c : tie.After-same-bytes) → same line (first-record (c .before .before .before .before .before .before .args .table .now)) ≡ c .same-bytes .result
+named : (c : tie.After-same-bytes) → same line (first-record (c .before .before .before .before .before .before .before .before .args .table .now)) ≡ c .same-bytes .result
 unfolding bytes
 named c = ap (same line) (sym (c .before .first-record .ensures)) ∙ sym (c .same-bytes .ensures)
 
 returns-2 : tie.Need-returns-2
 returns-2 c =
-    let a = c .before .before .before .before .before .before .before .args in
-    refused-ends road road-numbers (read-roads (a .table .now)) _ _ _ (other (a .table .now) (c .before .before .before .before .if1 .left) (named (c .before) ∙ not-true _ (c .if2 .taken)))
+    let a = c .before .before .before .before .before .before .before .before .before .args in
+    no-roads (read-roads (a .table .now)) _ _ _ _ _ (other (a .table .now) (c .before .before .before .before .if1 .left) (named (c .before) ∙ not-true _ (c .if2 .taken)))
 
 roads-from-requires : tie.Need-roads-from-requires
 roads-from-requires c κs = search needs
@@ -70,12 +69,18 @@ roads-from-requires c κs = search needs
 same-length : tie.Need-same-length
 same-length c = search needs
 
+same-length-2 : tie.Need-same-length-2
+same-length-2 c = search needs
+
+same-length-3 : tie.Need-same-length-3
+same-length-3 c = search needs
+
 returns-3 : tie.Need-returns-3
 returns-3 c =
-    let e = c .before .before .before .before in
-    let a = e .before .before .before .before .before .before .before .args in
-    ends-as road road-numbers (read-roads (a .table .now)) _ _ _ _
-    (after (a .table .now) (e .before .before .before .before .if1 .left) (named (e .before) ∙ not-false _ (e .if2 .left))) (c .before .before .roads-from .ensures)
+    let e = c .before .before .before .before .before .before .before .before .before .before in
+    let a = e .before .before .before .before .before .before .before .before .before .args in
+    roads-as (read-roads (a .table .now)) _ _ _ _ _ _
+    (after (a .table .now) (e .before .before .before .before .if1 .left) (named (e .before) ∙ not-false _ (e .if2 .left))) (c .before .before .before .before .before .before .roads-from .ensures)
 
 pub read-table-spec : {M : Type 1} → statement M
 read-table-spec =
@@ -88,4 +93,6 @@ read-table-spec =
     returns-2
     roads-from-requires
     same-length
+    same-length-2
+    same-length-3
     returns-3)

@@ -16,8 +16,8 @@ use Rattle.floor.specs.declared.Reason.the-variants.{Layout, Range, RoadPair, L
 use Rattle.floor.specs.Plan.{Road, joined}
 use Rattle.floor.specs.Roads.{road, road-ranges}
 use Rattle.tables.specs.Arrays.{road-numbers, roads-in}
-use Rattle.tables.proofs.Turns.{left-refused, left-taken}
 use Rattle.tables.proofs.RoadRecords.{road-of, at-next, road-malformed, road-count, road-range, road-self, road-second, road-over, road-taken, ranges-exact, ranges-broken, read-whole, roads-in-length}
+use Rattle.tables.proofs.Indexes.{stored-indexed, road-refused, road-linked}
 use Rattle.tables.proofs.roads.take_road.Statement.{statement}
 use Rattle.tables.proofs.roads.take_road.Tie as tie
 
@@ -37,14 +37,14 @@ enum-told c = search needs
 returns : tie.Need-returns
 returns c =
     let rn = c .before .before .before in
-    let a = rn .before .before .before .before .args in
+    let a = rn .before .before .before .before .before .before .args in
     let before = roads-in (a .n) (a .roads .now) in
-    left-refused road-numbers (4 * a .n) (a .roads .now) (road before (a .row .now)) (at-next before Layout)
+    road-refused (a .n) (a .roads .now) _ _ (road before (a .row .now)) (at-next before Layout)
     (road-malformed before (a .row .now) (answered-none _ (sym (c .enum-told .given .1) ∙ rn .read-numbers .ensures .0)))
 
 -- the numbers that were read
 there : (c : tie.After-known-told) →
-    (ns : List ℕ) × (numbers (fields (c .before .before .before .before .before .before .before .before .args .row .now)) ≡ some ns)
+    (ns : List ℕ) × (numbers (fields (c .before .before .before .before .before .before .before .before .before .before .args .row .now)) ≡ some ns)
     × (c .before .x .given .0 .0 ≡ length ns) × (c .before .x .given .0 .1 .0 ≡ greatest ns)
 there c = answered-numbers _ _ _ (sym (c .before .x .given .1) ∙ c .before .before .before .before .read-numbers .ensures .0)
 
@@ -56,10 +56,10 @@ returns-2 : tie.Need-returns-2
 returns-2 c =
     let k = c .before in
     let rn = k .before .before .before .before in
-    let a = rn .before .before .before .before .args in
+    let a = rn .before .before .before .before .before .before .args in
     let before = roads-in (a .n) (a .roads .now) in
     let (ns, e, n, _) = there k in
-    left-refused road-numbers (4 * a .n) (a .roads .now) (road before (a .row .now)) (at-next before Layout)
+    road-refused (a .n) (a .roads .now) _ _ (road before (a .row .now)) (at-next before Layout)
     (road-count before (a .row .now) ns e (λ q. c .if1 .taken (n ∙ q)))
 
 array-read-from : tie.Need-array-read-from
@@ -81,11 +81,11 @@ returns-3 : tie.Need-returns-3
 returns-3 c =
     let k = c .before .before .before in
     let rn = k .before .before .before .before in
-    let a = rn .before .before .before .before .args in
+    let a = rn .before .before .before .before .before .before .args in
     let before = roads-in (a .n) (a .roads .now) in
     let four = c .before .before .if1 .left in
     let (ns, e, n, _) = there k in
-    left-refused road-numbers (4 * a .n) (a .roads .now) (road before (a .row .now)) (at-next before Range)
+    road-refused (a .n) (a .roads .now) _ _ (road before (a .row .now)) (at-next before Range)
     (road-range before (a .row .now) ns e (sym n ∙ four)
     (ranges-broken ns (ap (λ (v : List ℕ). road-ranges (road-of v)) (sym (held k four)) ∙ sym (c .before .in-ranges .ensures) ∙ not-true _ (c .if2 .taken))))
 
@@ -108,13 +108,13 @@ other c q =
 
 -- and no road joins them
 apart : (c : tie.Else4) →
-    let s = c .before .before .before .before in
-    let a = s .before .before .before .before .before .before .before .before .before .before .before .args in
+    let s = c .before .before .before .before .before .before in
+    let a = s .before .before .before .before .before .before .before .before .before .before .before .before .before .args in
     let ns = there (s .before .before .before) .0 in
     joined (roads-in (a .n) (a .roads .now)) (getD ns 0 0) (getD ns 1 0) ≡ false
 apart c =
-    let s = c .before .before .before .before in
-    let a = s .before .before .before .before .before .before .before .before .before .before .before .args in
+    let s = c .before .before .before .before .before .before in
+    let a = s .before .before .before .before .before .before .before .before .before .before .before .before .before .args in
     ap (λ (d : Road). joined (roads-in (a .n) (a .roads .now)) (d .from) (d .to)) (sym (exact s)) ∙ sym (c .before .is-joined .ensures) ∙ c .if4 .left
 
 -- four stores in a row
@@ -130,12 +130,12 @@ returns-4 c =
     let e = c .before in
     let k = e .before .before .before in
     let rn = k .before .before .before .before in
-    let a = rn .before .before .before .before .args in
+    let a = rn .before .before .before .before .before .before .args in
     let before = roads-in (a .n) (a .roads .now) in
     let four = e .before .before .if1 .left in
     let (ns, given, n, _) = there k in
     let same = exact e in
-    left-refused road-numbers (4 * a .n) (a .roads .now) (road before (a .row .now)) (at-next before RoadPair)
+    road-refused (a .n) (a .roads .now) _ _ (road before (a .row .now)) (at-next before RoadPair)
     (road-self before (a .row .now) ns given (sym n ∙ four) (in-range e) (sym (ap (λ (d : Road). d .from) same) ∙ c .if3 .taken ∙ ap (λ (d : Road). d .to) same))
 
 is-joined-requires : tie.Need-is-joined-requires
@@ -144,34 +144,46 @@ is-joined-requires c κs = search needs
 same-length : tie.Need-same-length
 same-length c = search needs
 
-returns-5 : tie.Need-returns-5
-returns-5 c =
-    let e = c .before .before .before .before in
-    let k = e .before .before .before in
-    let rn = k .before .before .before .before in
-    let a = rn .before .before .before .before .args in
-    let before = roads-in (a .n) (a .roads .now) in
-    let four = e .before .before .if1 .left in
-    let (ns, given, n, _) = there k in
-    let same = exact e in
-    left-refused road-numbers (4 * a .n) (a .roads .now) (road before (a .row .now)) (at-next before RoadPair)
-    (road-second before (a .row .now) ns given (sym n ∙ four) (in-range e) (other (c .before .before .before)) (ap (λ (d : Road). joined before (d .from) (d .to)) (sym same) ∙ sym (c .before .is-joined .ensures) ∙ c .if4 .taken))
-
 same-length-2 : tie.Need-same-length-2
 same-length-2 c = search needs
 
-returns-6 : tie.Need-returns-6
-returns-6 c =
-    let e = c .before .before .before .before .before in
+same-length-3 : tie.Need-same-length-3
+same-length-3 c = search needs
+
+returns-5 : tie.Need-returns-5
+returns-5 c =
+    let e = c .before .before .before .before .before .before in
     let k = e .before .before .before in
     let rn = k .before .before .before .before in
-    let a = rn .before .before .before .before .args in
+    let a = rn .before .before .before .before .before .before .args in
     let before = roads-in (a .n) (a .roads .now) in
     let four = e .before .before .if1 .left in
     let (ns, given, n, _) = there k in
     let same = exact e in
-    left-refused road-numbers (4 * a .n) (a .roads .now) (road before (a .row .now)) (at-next before Limit)
-    (road-over before (a .row .now) ns given (sym n ∙ four) (in-range e) (other (c .before .before .before .before)) (apart (c .before)) (omega (arith, roads-in-length (a .n) (a .roads .now), c .if5 .taken)))
+    road-refused (a .n) (a .roads .now) _ _ (road before (a .row .now)) (at-next before RoadPair)
+    (road-second before (a .row .now) ns given (sym n ∙ four) (in-range e) (other (c .before .before .before .before .before)) (ap (λ (d : Road). joined before (d .from) (d .to)) (sym same) ∙ sym (c .before .is-joined .ensures) ∙ c .if4 .taken))
+
+same-length-4 : tie.Need-same-length-4
+same-length-4 c = search needs
+
+same-length-5 : tie.Need-same-length-5
+same-length-5 c = search needs
+
+same-length-6 : tie.Need-same-length-6
+same-length-6 c = search needs
+
+returns-6 : tie.Need-returns-6
+returns-6 c =
+    let e = c .before .before .before .before .before .before .before in
+    let k = e .before .before .before in
+    let rn = k .before .before .before .before in
+    let a = rn .before .before .before .before .before .before .args in
+    let before = roads-in (a .n) (a .roads .now) in
+    let four = e .before .before .if1 .left in
+    let (ns, given, n, _) = there k in
+    let same = exact e in
+    road-refused (a .n) (a .roads .now) _ _ (road before (a .row .now)) (at-next before Limit)
+    (road-over before (a .row .now) ns given (sym n ∙ four) (in-range e) (other (c .before .before .before .before .before .before)) (apart (c .before)) (omega (arith, roads-in-length (a .n) (a .roads .now), c .if5 .taken)))
 
 mul-roads : tie.Need-mul-roads
 mul-roads c = search needs
@@ -218,23 +230,42 @@ mul-roads-8 c = search needs
 slice-write-roads-4 : tie.Need-slice-write-roads-4
 slice-write-roads-4 c = simp length-set (omega arith)
 
-same-length-3 : tie.Need-same-length-3
-same-length-3 c = simp length-set
+-- its numbers follow theirs, and their index stands
+link-road-requires : tie.Need-link-road-requires
+link-road-requires c κs =
+    let e = c .before .before .before in
+    let z = e .before .before .before .before .before .before .before .before .before .before .before .before .before .before .before .before .before .before .before .before in
+    let a = z .args in (
+      (omega arith, simp length-set (omega arith)),
+      (z .pre .1 .0, z .pre .1 .1, stored-indexed (a .n) (a .roads .now) (a .heads .now) (a .nexts .now) _ _ _ _ (z .pre .1 .2)),
+    )
+
+same-length-7 : tie.Need-same-length-7
+same-length-7 c = search needs
+
+same-length-8 : tie.Need-same-length-8
+same-length-8 c = search needs
+
+same-length-9 : tie.Need-same-length-9
+same-length-9 c = search needs
 
 returns-7 : tie.Need-returns-7
 unfolding road-numbers
 returns-7 c =
-    let e = c .before .before .before .before .before in
+    let f = c .before .before .before .before in
+    let q = f .before .before .before .before in
+    let e = q .before .before .before .before .before .before .before in
     let k = e .before .before .before in
     let rn = k .before .before .before .before in
-    let a = rn .before .before .before .before .args in
+    let a = rn .before .before .before .before .before .before .args in
     let before = roads-in (a .n) (a .roads .now) in
     let four = e .before .before .if1 .left in
     let (ns, given, n, _) = there k in
     let same = exact e in
-    left-taken road-numbers (4 * a .n) (a .roads .now) _ (road before (a .row .now)) (road-of ns)
-    (road-taken before (a .row .now) ns given (sym n ∙ four) (in-range e) (other (c .before .before .before .before)) (apart (c .before)) (omega (arith, roads-in-length (a .n) (a .roads .now), c .if5 .left)))
+    road-linked (a .n) (a .roads .now) _ _ _ (road before (a .row .now)) (road-of ns)
+    (road-taken before (a .row .now) ns given (sym n ∙ four) (in-range e) (other (q .before .before .before .before .before .before)) (apart (q .before)) (omega (arith, roads-in-length (a .n) (a .roads .now), q .if5 .left)))
     (four-stores (a .roads .now) (4 * a .n) _ _ _ _ ∙ ap (λ (d : Road). sets (a .roads .now) (4 * a .n) (road-numbers d)) same)
+    (f .link-road .ensures)
 
 pub take-road-spec : {M : Type 1} → statement M
 take-road-spec =
@@ -255,8 +286,12 @@ take-road-spec =
     returns-4
     is-joined-requires
     same-length
-    returns-5
     same-length-2
+    same-length-3
+    returns-5
+    same-length-4
+    same-length-5
+    same-length-6
     returns-6
     mul-roads
     mul-roads-2
@@ -273,5 +308,8 @@ take-road-spec =
     add-roads-3
     mul-roads-8
     slice-write-roads-4
-    same-length-3
+    link-road-requires
+    same-length-7
+    same-length-8
+    same-length-9
     returns-7)
