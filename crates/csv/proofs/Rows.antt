@@ -5,8 +5,8 @@ use mathlib.Core.Path.{_≡_, refl}
 use mathlib.Core.List.{List, [], _∷_, map}
 use mathlib.Core.Option.{Option, none, some}
 use Rattle.csv.specs.Text.{bytes}
-use Rattle.csv.specs.Records.{records, fields}
-use Rattle.csv.specs.Number.{number}
+use Rattle.csv.specs.Records.{records, first-record, fields, field-at}
+use Rattle.csv.specs.Number.{number, greatest, leading, capped}
 use Rattle.csv.specs.Open.{open-csv}
 
 -- a text's pieces, and those that are expected of it
@@ -68,3 +68,15 @@ number-rows =
 numbers-follow : map (λ (r : Number). number (bytes (r .text))) number-rows ≡ map (λ (r : Number). r .gives) number-rows
 unfolding open-csv number-rows
 numbers-follow = refl
+
+-- the first record of a rest, the field at a place, also past the end
+parts-follow : first-record (bytes "0,1\r\n2") ∷ first-record (bytes "2") ∷ first-record [] ∷ field-at (bytes "0,12,3") 2 ∷ field-at (bytes "0,12,3") 9 ∷ []
+    ≡ bytes "0,1" ∷ bytes "2" ∷ [] ∷ bytes "12" ∷ [] ∷ []
+unfolding open-csv
+parts-follow = refl
+
+-- the numbers before a field that is none, the greatest of some, and one that four bytes do not hold
+leading-follow : leading (fields (bytes "7,12,x,3")) ∷ (greatest (3 ∷ 12 ∷ 7 ∷ []) ∷ greatest [] ∷ []) ∷ map capped (65_535 ∷ 9_999_999_999 ∷ []) ∷ []
+    ≡ (7 ∷ 12 ∷ []) ∷ (12 ∷ 0 ∷ []) ∷ (65_535 ∷ 4_294_967_295 ∷ []) ∷ []
+unfolding open-csv
+leading-follow = refl

@@ -114,6 +114,7 @@ numbers-of a p =
       cells = padded (length (a .cells)) (path-cells (p .paths));
     }
 
+-- what a judgement leaves
 unfoldable pub arrays-judged : Arrays → Judged Plan → Arrays
 arrays-judged a (refused r) = zeros a
 arrays-judged a (accepted p) = numbers-of a p
