@@ -68,6 +68,10 @@ module _ (rs : List Road) (ps : List (List ℕ)) where
   unfolding first-same-cell same-cell
   same-from = earliest-from (same-cell ps) (λ s. collision-from _ [] _) 0 (steps ps)
 
+  -- no two carts in one cell
+  pub none-same : found (first-same-cell ps) ≡ 0 → first-same-cell ps ≡ none
+  none-same = found-none _ same-from
+
   exchange-from : FromOne (first-exchange ps)
   unfolding first-exchange exchange
   exchange-from = earliest-from (exchange ps) (λ s. collision-from _ [] _) 0 _
@@ -97,12 +101,12 @@ module _ (rs : List Road) (ps : List (List ℕ)) where
       pub apart-exchange : (found (first-exchange ps) ≡ 0 → ⊥) → apart rs ps ≡ refused (record { reason = Exchange; table = Paths; row = found (first-exchange ps) })
       unfolding apart
       apart-exchange h =
-          clear (off-road rs 1 ps) OffRoad _ (found-none _ off-from on) ∙ clear (first-same-cell ps) SameCell _ (found-none _ same-from alone)
+          clear (off-road rs 1 ps) OffRoad _ (found-none _ off-from on) ∙ clear (first-same-cell ps) SameCell _ (none-same alone)
           ∙ meets (first-exchange ps) Exchange _ _ (found-some _ h)
 
       -- neither
       pub apart-kept : found (first-exchange ps) ≡ 0 → apart rs ps ≡ accepted ps
       unfolding apart
       apart-kept h =
-          clear (off-road rs 1 ps) OffRoad _ (found-none _ off-from on) ∙ clear (first-same-cell ps) SameCell _ (found-none _ same-from alone)
+          clear (off-road rs 1 ps) OffRoad _ (found-none _ off-from on) ∙ clear (first-same-cell ps) SameCell _ (none-same alone)
           ∙ clear (first-exchange ps) Exchange _ (found-none _ exchange-from h)

@@ -5,16 +5,16 @@ use native.Mathlib.Numerals.{add-one}
 use native.Mathlib.Nat.{mul-le-mul-right, add-mul, zero-mul, suc-mul}
 use native.Mathlib.Omega.{arith}
 use mathlib.Core.Path.{_≡_, refl, ap, sym, _∙_}
-use mathlib.Core.Bool.{Bool, true, false, not, _&&_, _||_, cond}
+use mathlib.Core.Bool.{Bool, true, false, true≢false, not, _&&_, _||_, cond}
 use mathlib.Core.List.{List, [], _∷_, map}
-use mathlib.Core.Option.{Option, none, some}
-use borrow.Author.Tests.{eq-eqb, ne-eqb, eqb-true, not-true, not-false}
+use mathlib.Core.Option.{Option, none, some, Option·some-ne-none}
+use borrow.Author.Tests.{eq-eqb, ne-eqb, eqb-true, eqb-false, not-true, not-false}
 use lib.Dec.{eqb}
 use lib.ListN.{length, take, drop, getD, length-take, length-drop, drop-of-length-le}
 use lib.Seq.{length-take-le, take-suc, drop-cons, getD-take, getD-drop, drop-drop}
 use Rattle.floor.specs.Plan.{Road, joined}
 use Rattle.floor.specs.Refusal.{next}
-use Rattle.floor.specs.Paths.{on-roads, off-road, collides, first-collision, earliest, at-step, steps, Move, exchanged}
+use Rattle.floor.specs.Paths.{on-roads, off-road, collides, first-collision, earliest, at-step, same-cell, steps, first-same-cell, Move, exchanged}
 use Rattle.tables.specs.Arrays.{paths-in}
 
 -- the second of two tests is enough
@@ -164,6 +164,45 @@ module _ {A : Type 0} {xs : List A} {n : ℕ} {at : ℕ → A} (f : A → A → 
       → first-collision f (take i xs) (drop i xs) ≡ some (i + 1)
   record-found i k l h e met = first-next i true h (e ∙ collides-next i k true l h met)
 
+  -- one that collides with none of those before it passes them all
+  pub all-passed : (i : ℕ) → i < n → ((k : ℕ) → k < i → f (at i) (at k) ≡ false) → (k : ℕ) → k ≤ i
+      → collides f (at i) (take i xs) ≡ collides f (at i) (drop k (take i xs))
+  all-passed i h others zero l = refl
+  all-passed i h others (suc k) l =
+      all-passed i h others k (omega arith) ∙ other-passed i k (omega arith) h (others k (omega arith))
+      ∙ ap (λ (m : ℕ). collides f (at i) (drop m (take i xs))) (add-one k)
+
+  -- where no first collision is found, none is found after the first i
+  none-after : first-collision f [] xs ≡ none → (i : ℕ) → i ≤ n → first-collision f (take i xs) (drop i xs) ≡ none
+  none-after e zero l = e
+  none-after e (suc i) l = by (collides f (at i) (take i xs)) refl (none-after e i (omega arith))
+    where
+      by : (t : Bool) → collides f (at i) (take i xs) ≡ t → first-collision f (take i xs) (drop i xs) ≡ none
+          → first-collision f (take (suc i) xs) (drop (suc i) xs) ≡ none
+      by true q none-yet = absurd (Option·some-ne-none _ (sym (first-next i true l q) ∙ none-yet))
+      by false q none-yet = ap (λ (m : ℕ). first-collision f (take m xs) (drop m xs)) (sym (add-one i)) ∙ sym (first-next i false l q) ∙ none-yet
+
+  -- the one at place i collides with none of those before it from place k on
+  none-left : first-collision f [] xs ≡ none → (i k : ℕ) → i < n → k ≤ i → collides f (at i) (drop k (take i xs)) ≡ false
+  none-left e i zero h l = by (collides f (at i) (take i xs)) refl
+    where
+      by : (t : Bool) → collides f (at i) (take i xs) ≡ t → t ≡ false
+      by true q = absurd (Option·some-ne-none _ (sym (first-next i true h q) ∙ none-after e i (omega arith)))
+      by false q = refl
+  none-left e i (suc k) h l = by (f (at i) (at k)) refl (none-left e i k h (omega arith))
+    where
+      by : (t : Bool) → f (at i) (at k) ≡ t → collides f (at i) (drop k (take i xs)) ≡ false → collides f (at i) (drop (suc k) (take i xs)) ≡ false
+      by true q rest = absurd (true≢false (sym (collides-next i k true (omega arith) h q) ∙ rest))
+      by false q rest = ap (λ (m : ℕ). collides f (at i) (drop m (take i xs))) (sym (add-one k)) ∙ sym (collides-next i k false (omega arith) h q) ∙ rest
+
+  -- nor with the one at place k
+  pub none-with : first-collision f [] xs ≡ none → (i k : ℕ) → i < n → k < i → f (at i) (at k) ≡ false
+  none-with e i k h l = by (f (at i) (at k)) refl
+    where
+      by : (t : Bool) → f (at i) (at k) ≡ t → t ≡ false
+      by true q = absurd (true≢false (sym (collides-next i k true l h q) ∙ none-left e i k h (omega arith)))
+      by false q = refl
+
   -- after the last
   pub records-past : (i : ℕ) → n ≤ i → first-collision f (take i xs) (drop i xs) ≡ none
   unfolding first-collision
@@ -197,6 +236,21 @@ step-found f s n i h e = let z : n - s ≡ suc (n - (s + 1)) = omega arith in rw
 pub steps-over : (f : ℕ → Option ℕ) (s n : ℕ) → n ≤ s → earliest f s (n - s) ≡ none
 unfolding earliest
 steps-over f s n h = let z : n - s ≡ 0 = omega arith in rw z
+
+-- where nothing is found from a step on, nothing is found there
+none-at : (f : ℕ → Option ℕ) (n s : ℕ) → s < n → earliest f s (n - s) ≡ none → f s ≡ none
+none-at f n s h e = by (f s) refl
+  where
+    by : (o : Option ℕ) → f s ≡ o → f s ≡ none
+    by none q = q
+    by (some i) q = absurd (Option·some-ne-none _ (sym (step-found f s n i h q) ∙ e))
+
+-- where nothing is found, nothing is found from any step on
+none-later : (f : ℕ → Option ℕ) (n : ℕ) → earliest f 0 n ≡ none → (s : ℕ) → s ≤ n → earliest f s (n - s) ≡ none
+none-later f n e zero l = let all : n - 0 ≡ n = omega arith in ap (earliest f 0) all ∙ e
+none-later f n e (suc s) l =
+    let before : earliest f s (n - s) ≡ none = none-later f n e s (omega arith) in
+    ap (λ (m : ℕ). earliest f m (n - m)) (sym (add-one s)) ∙ sym (step-passed f s n (none-at f n s l before)) ∙ before
 
 -- ---- what the paths of an array have at a step
 
@@ -278,3 +332,23 @@ pub step-to-passed : (f : ℕ → Option ℕ) (s n : ℕ) → 1 ≤ s → f (s -
 step-to-passed f s n least e =
     let one : s - 1 + 1 ≡ s + 1 - 1 = omega arith in
     step-passed f (s - 1) n e ∙ ap (λ (j : ℕ). earliest f j (n - j)) one
+
+-- no two carts are in one cell at a step
+cells-apart : (n w : ℕ) (s : List ℕ) → n * w ≤ length s → first-same-cell (paths-in n w s) ≡ none → (t i k : ℕ) → t < w → i < n → k < i
+    → getD s (i * w + t) 0 ≡ getD s (k * w + t) 0 → ⊥
+unfolding first-same-cell same-cell
+cells-apart n w s fits e t i k h l m =
+    let all : steps (paths-in n w s) ≡ w = steps-all n w s (omega arith) fits in
+    let within : t < steps (paths-in n w s) = omega arith in
+    let none-here : same-cell (paths-in n w s) t ≡ none =
+    none-at (same-cell (paths-in n w s)) (steps (paths-in n w s)) t within (none-later _ _ e t (omega arith)) in
+    eqb-false _ _ (none-with eqb (cells-placed n w s t h) none-here i k l m)
+
+-- so a cart that stays exchanges cells with none of those before it
+pub stays-alone : (n w : ℕ) (s : List ℕ) → n * w ≤ length s → first-same-cell (paths-in n w s) ≡ none → (t i : ℕ) → 1 ≤ t → t < w → i < n
+    → getD s (i * w + t - 1) 0 ≡ getD s (i * w + t) 0
+    → collides exchanged (record { before = getD s (i * w + t - 1) 0; after = getD s (i * w + t) 0 }) (take i (moves-at n w s (t - 1)))
+    ≡ collides exchanged (record { before = getD s (i * w + t - 1) 0; after = getD s (i * w + t) 0 }) (drop i (take i (moves-at n w s (t - 1))))
+stays-alone n w s fits e t i least h l stays =
+    all-passed exchanged (moves-placed n w s t least h) i l
+    (λ k m. moves-pass _ _ _ _ (λ p q. cells-apart n w s fits e t i k h l m (sym (p ∙ stays)))) i (omega arith)

@@ -1,5 +1,6 @@
 // What two carts, or a cart and the roads, may not do: refusals 7, 8 and 9. A path's cells follow those of the path before it.
 ghost use mathlib.Core.Path.{_≡_};
+ghost use mathlib.Core.Option.{none};
 use crate::roads;
 ghost use Prim.Native.Nat.{_+_, _*_, _≤_};
 ghost use lib.ListN.{length, take, drop};
@@ -88,9 +89,9 @@ pub(crate) fn same_cells(cells: &[u32], carts: usize, w: usize) -> usize
     found
 }
 
-// The higher record of the first two carts that exchange cells, 0 where there are none.
+// The higher record of the first two carts that exchange cells, 0 where there are none. No two are in one cell, so a cart that stays exchanges with none.
 pub(crate) fn exchanges(cells: &[u32], carts: usize, w: usize) -> usize
-    requires { ⌜ carts * w ≤ length (now cells) ⌝ }
+    requires { ⌜ (carts * w ≤ length (now cells)) × (first-same-cell (paths-in carts w (now cells)) ≡ none) ⌝ }
     ensures { λ r. ⌜ r ≡ found (first-exchange (paths-in carts w (now (cells .entry)))) ⌝ }
 {
     let mut found = 0;
@@ -101,6 +102,9 @@ pub(crate) fn exchanges(cells: &[u32], carts: usize, w: usize) -> usize
             let a = cells[i * w + s - 1];
             let b = cells[i * w + s];
             let mut k = 0;
+            if a == b {
+                k = i;
+            }
             while k < i {
                 if cells[k * w + s] == a {
                     if cells[k * w + s - 1] == b {

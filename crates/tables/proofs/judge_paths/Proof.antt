@@ -12,7 +12,7 @@ use Rattle.floor.specs.Paths.{steps}
 use Rattle.tables.specs.Arrays.{roads-in, paths-in}
 use Rattle.tables.specs.Reading.{paths-read}
 use Rattle.tables.proofs.Searches.{steps-all}
-use Rattle.tables.proofs.Found.{apart-off, apart-same, apart-exchange, apart-kept}
+use Rattle.tables.proofs.Found.{none-same, apart-off, apart-same, apart-exchange, apart-kept}
 use Rattle.tables.proofs.PathRecords.{paths-in-length}
 use Rattle.tables.proofs.judge_paths.Statement.{statement}
 use Rattle.tables.proofs.judge_paths.Tie as tie
@@ -48,7 +48,11 @@ returns-2 c =
     ap (at SameCell) same ∙ sym (ap paths-read (apart-same rs ps on (λ q. c .if2 .taken (same ∙ q))))
 
 exchanges-requires : tie.Need-exchanges-requires
-exchanges-requires c κs = search needs
+exchanges-requires c κs =
+    let b = c .before .before in
+    let s = b .before .before .before .before .before .before in
+    let a = s .args in
+    (s .pre .0 .2, none-same (roads-in (a .n) (a .edges .now)) (paths-in (a .carts) (a .w) (a .cells .now)) (sym (c .before .same-cells .ensures) ∙ c .if2 .left))
 
 returns-3 : tie.Need-returns-3
 unfolding paths-read at

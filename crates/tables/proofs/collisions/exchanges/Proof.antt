@@ -1,15 +1,16 @@
 -- `tables::collisions::exchanges` meets its contract. The loops' invariants are those of `same_cells`, for the moves to a step.
 -- Assumes nothing.
-use Prim.Native.Nat.{_+_, _*_, _-_, _≤_, _<_}
+use Prim.Native.Nat.{ℕ, _+_, _*_, _-_, _≤_, _<_}
 use native.Mathlib.Numerals.{unary-clauses}
 use native.Mathlib.Omega.{arith}
 use mathlib.Core.Path.{_≡_, refl, ap, sym, _∙_}
 use mathlib.Core.Logic.{⊎-elim}
-use lib.ListN.{take, drop}
-use Rattle.floor.specs.Paths.{collides, first-collision, earliest, exchanged, exchange, steps, first-exchange}
+use mathlib.Core.List.{List}
+use lib.ListN.{take, drop, getD}
+use Rattle.floor.specs.Paths.{collides, first-collision, earliest, Move, exchanged, exchange, steps, first-exchange}
 use Rattle.tables.specs.Arrays.{paths-in}
 use Rattle.tables.specs.Reading.{found}
-use Rattle.tables.proofs.Searches.{path-fits, moves-at, moves-placed, moves-meet, moves-pass, other-passed, record-passed, record-found, records-past, step-to-passed, step-found, steps-over, steps-most, steps-all}
+use Rattle.tables.proofs.Searches.{path-fits, moves-at, moves-placed, moves-meet, moves-pass, stays-alone, other-passed, record-passed, record-found, records-past, step-to-passed, step-found, steps-over, steps-most, steps-all}
 use Rattle.tables.proofs.collisions.exchanges.Statement.{statement}
 use Rattle.tables.proofs.collisions.exchanges.Tie as tie
 
@@ -51,8 +52,8 @@ this-fits c = path-fits (c .before .loop .i) (c .before .before .before .before 
 
 -- and those of the cart that it is held against
 that-fits : (c : tie.In-loop2 Inv-loop2 μ-loop2 Inv-loop μ-loop Inv-steps μ-steps)
-    → let a = c .before .before .before .before .before .before .before .before .args in c .before .loop2 .k * a .w + a .w ≤ a .carts * a .w
-that-fits c = path-fits (c .before .loop2 .k) (c .before .before .before .before .before .before .before .before .args .carts) _ (omega arith)
+    → let a = c .before .before .before .before .before .before .before .before .before .args in c .before .loop2 .k * a .w + a .w ≤ a .carts * a .w
+that-fits c = path-fits (c .before .loop2 .k) (c .before .before .before .before .before .before .before .before .before .args .carts) _ (omega arith)
 
 mul-a : tie.Need-mul-a Inv-loop2 μ-loop2 Inv-loop μ-loop Inv-steps μ-steps
 mul-a c = omega (arith, this-fits c)
@@ -84,36 +85,51 @@ shared-slice-read-b :
 shared-slice-read-b c = omega (arith, this-fits (c .before .before))
 
 loop2-holds : tie.Need-loop2-holds Inv-loop2 μ-loop2 Inv-loop μ-loop Inv-steps μ-steps
-loop2-holds c = (c .before .before .before .loop .inv .0, refl)
-
-mul-if1 : tie.Need-mul-if1 Inv-loop2 μ-loop2 Inv-loop μ-loop Inv-steps μ-steps
-mul-if1 c = omega (arith, that-fits c)
-
-add-if1 : tie.Need-add-if1 Inv-loop2 μ-loop2 Inv-loop μ-loop Inv-steps μ-steps
-add-if1 c = omega (arith, that-fits c)
-
-mul-if1-2 : tie.Need-mul-if1-2 Inv-loop2 μ-loop2 Inv-loop μ-loop Inv-steps μ-steps
-mul-if1-2 c = omega (arith, that-fits c)
-
-shared-slice-read-if1 :
-    tie.Need-shared-slice-read-if1 Inv-loop2 μ-loop2 Inv-loop μ-loop Inv-steps μ-steps
-shared-slice-read-if1 c = omega (arith, that-fits (c .before))
+loop2-holds c =
+    let l = c .before .before .before .before in
+    let t = l .before .before in
+    let z = t .before in
+    let a = z .args in
+    let i = l .loop .i in
+    let s = t .steps .s in
+    let x : Move = record { before = getD (a .cells .now) (i * a .w + s - 1) 0; after = getD (a .cells .now) (i * a .w + s) 0 } in
+    let those : List Move = take i (moves-at (a .carts) (a .w) (a .cells .now) (s - 1)) in (
+      l .loop .inv .0,
+      ⊎-elim {C = collides exchanged x those ≡ collides exchanged x (drop (c .if1 .k) those)}
+          (λ u. stays-alone (a .carts) (a .w) (a .cells .now) (z .pre .0) (z .pre .1) s i (omega arith) (omega arith) (omega arith) (u .0 .taken)
+          ∙ ap (λ (k : ℕ). collides exchanged x (drop k those)) (sym (u .1)))
+          (λ u. ap (λ (k : ℕ). collides exchanged x (drop k those)) (sym (u .1)))
+          (c .if1 .came),
+    )
 
 mul-if2 : tie.Need-mul-if2 Inv-loop2 μ-loop2 Inv-loop μ-loop Inv-steps μ-steps
-mul-if2 c = omega (arith, that-fits (c .before .before))
+mul-if2 c = omega (arith, that-fits (c .before))
 
 add-if2 : tie.Need-add-if2 Inv-loop2 μ-loop2 Inv-loop μ-loop Inv-steps μ-steps
-add-if2 c = omega (arith, that-fits (c .before .before))
-
-sub-if2 : tie.Need-sub-if2 Inv-loop2 μ-loop2 Inv-loop μ-loop Inv-steps μ-steps
-sub-if2 c = omega (arith, that-fits (c .before .before))
+add-if2 c = omega (arith, that-fits (c .before))
 
 mul-if2-2 : tie.Need-mul-if2-2 Inv-loop2 μ-loop2 Inv-loop μ-loop Inv-steps μ-steps
-mul-if2-2 c = omega (arith, that-fits (c .before .before))
+mul-if2-2 c = omega (arith, that-fits (c .before))
 
 shared-slice-read-if2 :
     tie.Need-shared-slice-read-if2 Inv-loop2 μ-loop2 Inv-loop μ-loop Inv-steps μ-steps
-shared-slice-read-if2 c = omega (arith, that-fits (c .before .before .before))
+shared-slice-read-if2 c = omega (arith, that-fits (c .before .before))
+
+mul-if3 : tie.Need-mul-if3 Inv-loop2 μ-loop2 Inv-loop μ-loop Inv-steps μ-steps
+mul-if3 c = omega (arith, that-fits (c .before .before .before))
+
+add-if3 : tie.Need-add-if3 Inv-loop2 μ-loop2 Inv-loop μ-loop Inv-steps μ-steps
+add-if3 c = omega (arith, that-fits (c .before .before .before))
+
+sub-if3 : tie.Need-sub-if3 Inv-loop2 μ-loop2 Inv-loop μ-loop Inv-steps μ-steps
+sub-if3 c = omega (arith, that-fits (c .before .before .before))
+
+mul-if3-2 : tie.Need-mul-if3-2 Inv-loop2 μ-loop2 Inv-loop μ-loop Inv-steps μ-steps
+mul-if3-2 c = omega (arith, that-fits (c .before .before .before))
+
+shared-slice-read-if3 :
+    tie.Need-shared-slice-read-if3 Inv-loop2 μ-loop2 Inv-loop μ-loop Inv-steps μ-steps
+shared-slice-read-if3 c = omega (arith, that-fits (c .before .before .before .before))
 
 add-found : tie.Need-add-found Inv-loop2 μ-loop2 Inv-loop μ-loop Inv-steps μ-steps
 add-found c = omega arith
@@ -126,14 +142,14 @@ loop2-less c = omega arith
 
 loop2-again : tie.Need-loop2-again Inv-loop2 μ-loop2 Inv-loop μ-loop Inv-steps μ-steps
 loop2-again c =
-    let m = c .before .before .before in
-    let l = m .before .before .before .before in
+    let m = c .before .before .before .before in
+    let l = m .before .before .before .before .before in
     let t = l .before .before in
     let a = t .before .args in
     let v = moves-placed (a .carts) (a .w) (a .cells .now) (t .steps .s) (omega arith) (omega arith) in (
       m .loop2 .inv .0,
       m .loop2 .inv .1 ∙ other-passed exchanged v (l .loop .i) (m .loop2 .k) (omega arith) (omega arith)
-          (moves-pass _ _ _ _ (⊎-elim (λ u p q. u .2 .left q) (λ u p q. u .left p) (c .if1 .came))),
+          (moves-pass _ _ _ _ (⊎-elim (λ u p q. u .2 .left q) (λ u p q. u .left p) (c .if2 .came))),
     )
 
 add-i : tie.Need-add-i Inv-loop2 μ-loop2 Inv-loop μ-loop Inv-steps μ-steps
@@ -145,7 +161,7 @@ loop-less c = omega arith
 loop-again : tie.Need-loop-again Inv-loop2 μ-loop2 Inv-loop μ-loop Inv-steps μ-steps
 loop-again c =
     let m = c .before in
-    let l = m .before .before .before .before in
+    let l = m .before .before .before .before .before in
     let t = l .before .before in
     let a = t .before .args in
     let v = moves-placed (a .carts) (a .w) (a .cells .now) (t .steps .s) (omega arith) (omega arith) in
@@ -182,13 +198,13 @@ returns c =
 returns-2 : tie.Need-returns-2 Inv-loop2 μ-loop2 Inv-loop μ-loop Inv-steps μ-steps
 unfolding found
 returns-2 c =
-    let m = c .before .before .before .before .before in
-    let l = m .before .before .before .before in
+    let m = c .before .before .before .before .before .before in
+    let l = m .before .before .before .before .before in
     let t = l .before .before in
     let a = t .before .args in
     let n = steps (paths-in (a .carts) (a .w) (a .cells .now)) - 1 in
     let v = moves-placed (a .carts) (a .w) (a .cells .now) (t .steps .s) (omega arith) (omega arith) in
-    let met = moves-meet _ _ _ _ (c .before .before .if1 .taken) (c .if2 .taken) in
+    let met = moves-meet _ _ _ _ (c .before .before .if2 .taken) (c .if3 .taken) in
     let here = record-found exchanged v (l .loop .i) (m .loop2 .k) (omega arith) (omega arith) (m .loop2 .inv .1) met in
     let within : t .steps .s - 1 < n = omega (arith, steps-all (a .carts) (a .w) (a .cells .now) (omega arith) (omega arith)) in
     sym (ap found (t .steps .inv .2 ∙ step-found _ (t .steps .s - 1) n (l .loop .i + 1) within (l .loop .inv .1 ∙ here)))
@@ -215,15 +231,15 @@ exchanges-spec =
     mul-b-2
     shared-slice-read-b
     loop2-holds
-    mul-if1
-    add-if1
-    mul-if1-2
-    shared-slice-read-if1
     mul-if2
     add-if2
-    sub-if2
     mul-if2-2
     shared-slice-read-if2
+    mul-if3
+    add-if3
+    sub-if3
+    mul-if3-2
+    shared-slice-read-if3
     add-found
     add-k
     loop2-less
