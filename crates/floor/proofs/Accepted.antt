@@ -11,8 +11,9 @@ use lib.Dec.{T, leb, eqb, leb→le, ltb→lt, eqb→eq, eqb-refl}
 use lib.ListN.{length, getD, length-append, length-map, List·getD-append, List·getD-map}
 use mir.Facts.{and-yes}
 use Rattle.csv.specs.Text.{bytes}
-use Rattle.csv.specs.Records.{records, fields, widen}
+use Rattle.csv.specs.Records.{records, fields}
 use Rattle.csv.specs.Number.{number, numbers}
+use Rattle.csv.proofs.Reading.{some-field}
 use Rattle.floor.specs.declared.Reason.the-variants.{Layout, Range, RoadPair, Limit, NoCarts, PathCount, OffRoad, SameCell, Exchange}
 use Rattle.floor.specs.declared.Table.the-variants.{Roads, Carts, Paths}
 use Rattle.floor.specs.Refusal.{accepted, within-bytes, after-first-line, next, records-in-order}
@@ -140,22 +141,6 @@ read-carts-sound b cs e =
 
 -- ---- paths
 
--- a record has at least one field
-some-widened : (b : ℕ) (fs : List (List ℕ)) → 1 ≤ length (widen b fs)
-unfolding widen
-some-widened b [] = omega arith
-some-widened b (f ∷ fs) = omega arith
-
--- a byte before a field or a comma between two leaves at least one
-some-field : (r : List ℕ) → 1 ≤ length (fields r)
-unfolding fields
-some-field [] = omega arith
-some-field (b ∷ bs) = by (eqb b 44)
-  where
-    by : (t : Bool) → 1 ≤ length (cond t ([] ∷ fields bs) (widen b (fields bs)))
-    by true = omega arith
-    by false = some-widened b (fields bs)
-
 -- as many numbers as fields
 numbers-length : (fs : List (List ℕ)) (ns : List ℕ) → numbers fs ≡ some ns → length ns ≡ length fs
 unfolding numbers
@@ -182,7 +167,8 @@ path-sound before r q e =
     let (_, e3) = then-accepted (cells-range cs) Range Paths _ _ q e2 in
     let (l, e4) = then-accepted (leb (length cs) 1024 && leb (next before * length cs) 8192) Limit Paths _ _ q e3 in
     let (few, room) = and-yes (leb (length cs) 1024) _ l in
-    let some-cell : 1 ≤ length cs = omega (arith, numbers-length (fields r) cs there, some-field r) in
+    let (_, _, fields-are) = some-field r in
+    let some-cell : 1 ≤ length cs = omega (arith, numbers-length (fields r) cs there, ap (length {A = List ℕ}) fields-are) in
     subst (λ (x : List ℕ). T (same-width before (length x)) × (1 ≤ length x) × (length x ≤ 1024) × (next before * length x ≤ 8192)) (accepted-same cs q e4)
     (t, some-cell, leb→le _ _ few, leb→le _ _ room)
 

@@ -13,7 +13,7 @@ use lib.Seq.{drop-cons, drop-drop, getD-set-same, getD-set-other}
 use borrow.Author.Tests.{eq-eqb, ne-eqb}
 use Rattle.tables.specs.Arrays.{paths-in}
 use Rattle.network.specs.Events.{Visit, visits-after, visits-of}
-use Rattle.limits.specs.Counts.{total, moves-after, moves, Stop, stop, stops, counted, later-carts, goes-on, orders-from, stop-at, stops-in}
+use Rattle.limits.specs.Counts.{total, moves-after, moves, Stop, stop, stops, counts, later-carts, not-last, orders-from, stop-at, stops-in}
 
 -- ---- a path in an array
 
@@ -237,7 +237,7 @@ module _ (ns ts cs : List ℕ) where
       ∙ ap (λ (j : ℕ). stop-at ns ts cs i ∷ stops-in ns ts cs (n - (i + 1)) j) (sym (add-one i))
 
   -- the visit at hand is counted
-  pub later-yes : (v : Stop) (k n i : ℕ) → i < n → counted v k (stop-at ns ts cs i) ≡ true
+  pub later-yes : (v : Stop) (k n i : ℕ) → i < n → counts v k (stop-at ns ts cs i) ≡ true
       → later-carts v k (stops-in ns ts cs (n - i) i) ≡ suc (later-carts v (getD ns i 0) (stops-in ns ts cs (n - (i + 1)) (i + 1)))
   unfolding later-carts stop-at
   later-yes v k n i l e =
@@ -246,7 +246,7 @@ module _ (ns ts cs : List ℕ) where
       ∙ ap (λ (b : Bool). cond b (suc (later-carts v (getD ns i 0) rest)) (later-carts v k rest)) e
 
   -- it is not
-  pub later-no : (v : Stop) (k n i : ℕ) → i < n → counted v k (stop-at ns ts cs i) ≡ false
+  pub later-no : (v : Stop) (k n i : ℕ) → i < n → counts v k (stop-at ns ts cs i) ≡ false
       → later-carts v k (stops-in ns ts cs (n - i) i) ≡ later-carts v k (stops-in ns ts cs (n - (i + 1)) (i + 1))
   unfolding later-carts stop-at
   later-no v k n i l e =
@@ -258,7 +258,7 @@ module _ (ns ts cs : List ℕ) where
   pub later-most : (v : Stop) (k n i : ℕ) → later-carts v k (stops-in ns ts cs n i) ≤ n
   unfolding later-carts stops-in
   later-most v k zero i = omega arith
-  later-most v k (suc n) i = by (counted v k (stop-at ns ts cs i)) (later-most v (stop-at ns ts cs i .cart) n (suc i)) (later-most v k n (suc i))
+  later-most v k (suc n) i = by (counts v k (stop-at ns ts cs i)) (later-most v (stop-at ns ts cs i .cart) n (suc i)) (later-most v k n (suc i))
     where
       by : (b : Bool) → later-carts v (stop-at ns ts cs i .cart) (stops-in ns ts cs n (suc i)) ≤ n → later-carts v k (stops-in ns ts cs n (suc i)) ≤ n
           → cond b (suc (later-carts v (stop-at ns ts cs i .cart) (stops-in ns ts cs n (suc i)))) (later-carts v k (stops-in ns ts cs n (suc i))) ≤ suc n
@@ -268,27 +268,27 @@ module _ (ns ts cs : List ℕ) where
   -- order bounds: a visit with one of the same cart behind it
   pub orders-more : (all : List Stop) (n i : ℕ) → i + 1 < n → getD ns i 0 ≡ getD ns (i + 1) 0
       → orders-from all (stops-in ns ts cs (n - i) i) ≡ later-carts (stop-at ns ts cs i) 0 all + orders-from all (stops-in ns ts cs (n - (i + 1)) (i + 1))
-  unfolding orders-from goes-on stop-at
+  unfolding orders-from not-last stop-at
   orders-more all n i l e =
       let rest : List Stop = stops-in ns ts cs (n - (i + 1)) (i + 1) in
       ap (orders-from all) (stops-cons n i (omega arith))
       ∙ ap (λ (b : Bool). cond b (later-carts (stop-at ns ts cs i) 0 all) 0 + orders-from all rest)
-      (ap (goes-on (stop-at ns ts cs i)) (stops-cons n (i + 1) l) ∙ eq-eqb (getD ns i 0) (getD ns (i + 1) 0) e)
+      (ap (not-last (stop-at ns ts cs i)) (stops-cons n (i + 1) l) ∙ eq-eqb (getD ns i 0) (getD ns (i + 1) 0) e)
 
   -- one with a visit of another cart behind it
   pub orders-same : (all : List Stop) (n i : ℕ) → i + 1 < n → (getD ns i 0 ≡ getD ns (i + 1) 0 → ⊥)
       → orders-from all (stops-in ns ts cs (n - i) i) ≡ orders-from all (stops-in ns ts cs (n - (i + 1)) (i + 1))
-  unfolding orders-from goes-on stop-at
+  unfolding orders-from not-last stop-at
   orders-same all n i l e =
       let rest : List Stop = stops-in ns ts cs (n - (i + 1)) (i + 1) in
       ap (orders-from all) (stops-cons n i (omega arith))
       ∙ ap (λ (b : Bool). cond b (later-carts (stop-at ns ts cs i) 0 all) 0 + orders-from all rest)
-      (ap (goes-on (stop-at ns ts cs i)) (stops-cons n (i + 1) l) ∙ ne-eqb (getD ns i 0) (getD ns (i + 1) 0) e)
+      (ap (not-last (stop-at ns ts cs i)) (stops-cons n (i + 1) l) ∙ ne-eqb (getD ns i 0) (getD ns (i + 1) 0) e)
       ∙ omega arith
 
   -- the last visit of all has none
   pub orders-none : (all : List Stop) (n i : ℕ) → n ≤ i + 1 → orders-from all (stops-in ns ts cs (n - i) i) ≡ 0
-  unfolding orders-from goes-on stops-in
+  unfolding orders-from not-last stops-in
   orders-none all n i l = by (n - i) (omega arith)
     where
       by : (m : ℕ) → m ≤ 1 → orders-from all (stops-in ns ts cs m i) ≡ 0

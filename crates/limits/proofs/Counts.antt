@@ -13,7 +13,7 @@ use Rattle.floor.specs.Plan.{Road, Cart, Plan}
 use Rattle.network.specs.Events.{Visit, visits-after, visits-of, approach, leave, point, same-kind, find-point, points-after, points, Route, routes, routes-of, route-points, event-of, event-count, last-event, finish-event}
 use Rattle.network.specs.Bounds.{Bound, no-earlier, Part, route-parts, part-bounds, start-bounds, travel-bounds, first-later, between, order-bound, order-bounds-to, order-bounds, finish-bounds, bounds}
 use Rattle.limits.specs.Limits.{of-paths, limits-kept}
-use Rattle.limits.specs.Counts.{total, moves-after, moves, Stop, stop, stops, counted, later-carts, goes-on, orders-from, orders-among}
+use Rattle.limits.specs.Counts.{total, moves-after, moves, Stop, stop, stops, counts, later-carts, not-last, orders-from, orders-among}
 use Rattle.network.proofs.Routes.{event-count-is}
 use Rattle.network.proofs.Ends.{parts-after-length}
 use Rattle.network.proofs.Sorts.{FirstLater, first-later-is}
@@ -240,7 +240,7 @@ route-orders p j m =
 
 -- the visits of v's own cart are passed over
 pass-own : (v : Stop) (k n : ℕ) (vs : List Visit) (rest : List Stop) → eqb (v .cart) n ≡ true → later-carts v k (map (stop n) vs ++ rest) ≡ later-carts v k rest
-unfolding later-carts counted stop
+unfolding later-carts counts stop
 pass-own v k n [] rest e = refl
 pass-own v k n (x ∷ xs) rest e =
     ap (λ (b : Bool). cond (not b && not (eqb k n) && (ltb (v .step) (x .step) && eqb (v .cell) (x .cell))) (suc (later-carts v n (map (stop n) xs ++ rest))) (later-carts v k (map (stop n) xs ++ rest))) e
@@ -248,7 +248,7 @@ pass-own v k n (x ∷ xs) rest e =
 
 -- so are those of the cart counted last
 pass-counted : (v : Stop) (n : ℕ) (vs : List Visit) (rest : List Stop) → later-carts v n (map (stop n) vs ++ rest) ≡ later-carts v n rest
-unfolding later-carts counted stop
+unfolding later-carts counts stop
 pass-counted v n [] rest = refl
 pass-counted v n (x ∷ xs) rest = by (eqb (v .cart) n) (equal-passes n n refl) (ltb (v .step) (x .step) && eqb (v .cell) (x .cell)) ∙ pass-counted v n xs rest
   where
@@ -261,7 +261,7 @@ pass-counted v n (x ∷ xs) rest = by (eqb (v .cart) n) (equal-passes n n refl) 
 pass-other : (a : ℕ) (x : Visit) (k n : ℕ) (vs : List Visit) (rest : List Stop) → eqb a n ≡ false → eqb k n ≡ false
     → later-carts (stop a x) k (map (stop n) vs ++ rest)
     ≡ elim (first-later x vs) [ none ↦ later-carts (stop a x) k rest | some y ↦ suc (later-carts (stop a x) n rest) ]
-unfolding later-carts counted stop first-later
+unfolding later-carts counts stop first-later
 pass-other a x k n [] rest e h = refl
 pass-other a x k n (y ∷ ys) rest e h =
     ap (λ (b : Bool). cond (not b && not (eqb k n) && (ltb (x .step) (y .step) && eqb (x .cell) (y .cell))) (suc (later-carts v n more)) (later-carts v k more)) e
@@ -312,16 +312,16 @@ others-counted (c ∷ cs) (p ∷ ps) n e a x k h l = by (eqb a n) refl (λ m q. 
 -- ---- the order bounds along the row of all visits
 
 -- after the last visit of a cart comes one of a later cart, or none
-goes-no-further : (v : Stop) (n : ℕ) (ps : List (List ℕ)) → v .cart < n → goes-on v (stops n ps) ≡ false
-unfolding goes-on stops visits-of stop
+goes-no-further : (v : Stop) (n : ℕ) (ps : List (List ℕ)) → v .cart < n → not-last v (stops n ps) ≡ false
+unfolding not-last stops visits-of stop
 goes-no-further v n [] l = refl
 goes-no-further v n ([] ∷ ps) l = goes-no-further v (suc n) ps (omega arith)
 goes-no-further v n ((c ∷ cs) ∷ ps) l = unequal-fails (v .cart) n (λ q. omega arith)
 
 -- the visits of one cart, before those of others
-orders-cart : (all : List Stop) (n : ℕ) (vs : List Visit) (rest : List Stop) → ((x : Visit) → goes-on (stop n x) rest ≡ false)
+orders-cart : (all : List Stop) (n : ℕ) (vs : List Visit) (rest : List Stop) → ((x : Visit) → not-last (stop n x) rest ≡ false)
     → orders-from all (map (stop n) vs ++ rest) ≡ but-last (λ (x : Visit). later-carts (stop n x) 0 all) vs + orders-from all rest
-unfolding orders-from but-last but-last-after goes-on stop
+unfolding orders-from but-last but-last-after not-last stop
 orders-cart all n [] rest h = omega arith
 orders-cart all n (x ∷ []) rest h = ap (λ (b : Bool). cond b (later-carts (stop n x) 0 all) 0 + orders-from all rest) (h x)
 orders-cart all n (x ∷ (y ∷ ys)) rest h =

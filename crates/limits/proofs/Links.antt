@@ -12,7 +12,7 @@ use lib.Dec.{ltb, eqb}
 use lib.ListN.{length, getD, set}
 use lib.Seq.{getD-set-same, getD-set-other}
 use borrow.Author.Tests.{eqb-true, eqb-false, ne-eqb}
-use Rattle.limits.specs.Counts.{Stop, counted, later-carts, stop-at, stops-in, left-in, Linked}
+use Rattle.limits.specs.Counts.{Stop, counts, later-carts, stop-at, stops-in, left-in, Linked}
 use Rattle.limits.proofs.CountSteps.{later-yes, later-no}
 
 -- ---- where the next of a remainder is
@@ -42,8 +42,8 @@ left-there cells b n (suc l) i e h = by (eqb (getD cells i 0 % 1024) b) refl h (
     by false q h rest = rest h
 
 -- a visit to another cell is not counted
-other-cell : (v u : Stop) (k : ℕ) → v .cell ≢ u .cell → counted v k u ≡ false
-unfolding counted
+other-cell : (v u : Stop) (k : ℕ) → v .cell ≢ u .cell → counts v k u ≡ false
+unfolding counts
 other-cell v u k h =
     ap (λ (b : Bool). not (eqb (v .cart) (u .cart)) && not (eqb k (u .cart)) && (ltb (v .step) (u .step) && b)) (ne-eqb (v .cell) (u .cell) h)
     ∙ by (not (eqb (v .cart) (u .cart)) && not (eqb k (u .cart))) (ltb (v .step) (u .step))
@@ -189,14 +189,14 @@ module _ (numbers times cells heads nexts : List ℕ) (n : ℕ) (k : Linked cell
       walk-goes = let (l, r, _) = walk-next (n - left) (omega arith) same next e in (omega (arith, l), r)
 
       -- the visit at hand is counted
-      pub walk-counts : (m : ℕ) → counted v m (stop-at numbers times cells (n - left)) ≡ true
+      pub walk-counts : (m : ℕ) → counts v m (stop-at numbers times cells (n - left)) ≡ true
           → later-carts v m (stops-in numbers times cells left (n - left)) ≡ suc (later-carts v (getD numbers (n - left) 0) (stops-in numbers times cells next (n - next)))
       walk-counts m q =
           let (_, _, skip) = walk-next (n - left) (omega arith) same next e in
           at-hand m ∙ later-yes numbers times cells v m n (n - left) (omega arith) q ∙ ap suc (skip (getD numbers (n - left) 0))
 
       -- or not
-      pub walk-passes : (m : ℕ) → counted v m (stop-at numbers times cells (n - left)) ≡ false
+      pub walk-passes : (m : ℕ) → counts v m (stop-at numbers times cells (n - left)) ≡ false
           → later-carts v m (stops-in numbers times cells left (n - left)) ≡ later-carts v m (stops-in numbers times cells next (n - next))
       walk-passes m q =
           let (_, _, skip) = walk-next (n - left) (omega arith) same next e in

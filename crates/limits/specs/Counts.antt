@@ -39,23 +39,23 @@ stops j [] = []
 stops j (p ∷ ps) = map (stop j) (visits-of p) ++ stops (suc j) ps
 
 -- whether u is a later visit to v's cell, by a cart that is neither v's nor number k
-unfoldable pub counted : Stop → ℕ → Stop → Bool
-counted v k u = not (eqb (v .cart) (u .cart)) && not (eqb k (u .cart)) && (ltb (v .step) (u .step) && eqb (v .cell) (u .cell))
+unfoldable pub counts : Stop → ℕ → Stop → Bool
+counts v k u = not (eqb (v .cart) (u .cart)) && not (eqb k (u .cart)) && (ltb (v .step) (u .step) && eqb (v .cell) (u .cell))
 
 -- how many other carts visit v's cell later, where number k was counted last: the visits of a cart stand together
 unfoldable pub later-carts : Stop → ℕ → List Stop → ℕ
 later-carts v k [] = 0
-later-carts v k (u ∷ us) = cond (counted v k u) (suc (later-carts v (u .cart) us)) (later-carts v k us)
+later-carts v k (u ∷ us) = cond (counts v k u) (suc (later-carts v (u .cart) us)) (later-carts v k us)
 
 -- whether the next visit is one of v's cart, so that v is not its last
-unfoldable pub goes-on : Stop → List Stop → Bool
-goes-on v [] = false
-goes-on v (u ∷ us) = eqb (v .cart) (u .cart)
+unfoldable pub not-last : Stop → List Stop → Bool
+not-last v [] = false
+not-last v (u ∷ us) = eqb (v .cart) (u .cart)
 
 -- the order bounds from these visits on, among all of them
 unfoldable pub orders-from : List Stop → List Stop → ℕ
 orders-from all [] = 0
-orders-from all (v ∷ us) = cond (goes-on v us) (later-carts v 0 all) 0 + orders-from all us
+orders-from all (v ∷ us) = cond (not-last v us) (later-carts v 0 all) 0 + orders-from all us
 
 -- of all of them
 unfoldable pub orders-among : List Stop → ℕ
@@ -86,5 +86,5 @@ pub record Linked (cells heads nexts : List ℕ) (n left : ℕ) : Type 0 where
 
 -- Names every definition of this module, for a proof that computes with them all.
 unfoldable pub open-counts : Unit {0}
-unfolding total moves-after moves stop stops counted later-carts goes-on orders-from orders-among stop-at stops-in left-in
+unfolding total moves-after moves stop stops counts later-carts not-last orders-from orders-among stop-at stops-in left-in
 open-counts = tt

@@ -6,7 +6,7 @@ ghost use Prim.Native.Nat.{ℕ, _+_, _*_, _≤_, _<_};
 ghost use lib.ListN.{length, take, drop, getD};
 ghost use Rattle.tables.specs.Arrays.{paths-in};
 ghost use Rattle.network.specs.Events.{visits-of};
-ghost use Rattle.limits.specs.Counts.{total, moves, stop, stops, counted, later-carts, orders-among, stop-at, stops-in, Linked};
+ghost use Rattle.limits.specs.Counts.{total, moves, stop, stops, counts, later-carts, orders-among, stop-at, stops-in, Linked};
 
 // The moves of the path at place `at`.
 fn moves_of(cells: &[u32], at: usize, steps: usize) -> usize
@@ -117,7 +117,7 @@ fn put_all(
 
 // Whether a visit of cart i at step s to cell x is later than one of cart j at step t, to the same cell c, and by a cart that is neither j nor k.
 fn is_counted(j: u16, t: u16, c: u32, k: u16, i: u16, s: u16, x: u32) -> bool
-    ensures { λ r. ⌜ r ≡ counted (record { cart = j; step = t; cell = c }) k (record { cart = i; step = s; cell = x }) ⌝ }
+    ensures { λ r. ⌜ r ≡ counts (record { cart = j; step = t; cell = c }) k (record { cart = i; step = s; cell = x }) ⌝ }
 {
     if j == i {
         return false;

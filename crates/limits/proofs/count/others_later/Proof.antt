@@ -7,7 +7,7 @@ use mathlib.Core.Logic.{⊎-elim}
 use mathlib.Core.List.{List}
 use borrow.Author.Needs.{needs}
 use lib.ListN.{getD}
-use Rattle.limits.specs.Counts.{Stop, counted, later-carts, stop-at, stops-in}
+use Rattle.limits.specs.Counts.{Stop, counts, later-carts, stop-at, stops-in}
 use Rattle.limits.proofs.Links.{walk-begins, walk-goes, walk-counts, walk-passes}
 use Rattle.limits.proofs.count.others_later.Statement.{statement}
 use Rattle.limits.proofs.count.others_later.Tie as tie
@@ -123,7 +123,7 @@ loop-again c =
     let next : ℕ = getD (a .nexts .now) (a .n - l .loop .left) 0 in
     let rest : List Stop = stops-in (a .numbers .now) (a .times .now) (a .places .now) next (a .n - next) in
     let t : 0 < l .loop .left = q .loop-test .taken in
-    let e : f .is-counted .result ≡ counted v (l .loop .k) (stop-at (a .numbers .now) (a .times .now) (a .places .now) (a .n - l .loop .left)) = f .is-counted .ensures in
+    let e : f .is-counted .result ≡ counts v (l .loop .k) (stop-at (a .numbers .now) (a .times .now) (a .places .now) (a .n - l .loop .left)) = f .is-counted .ensures in
     let (less, same) = walk-goes (a .numbers .now) (a .times .now) (a .places .now) (a .heads .now) (a .nexts .now) (a .n) (z .pre .1 .1 .2) v (l .loop .left) t (l .loop .inv .0) (l .loop .inv .2 t) next refl in
     ⊎-elim
     (λ w. (
