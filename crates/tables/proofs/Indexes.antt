@@ -10,7 +10,7 @@ use mathlib.Core.Bool.{Bool, true, false, _&&_, _||_, cond}
 use mathlib.Core.List.{List, [], _∷_, flatMap}
 use mathlib.Core.Option.{none, some}
 use lib.Dec.{eqb}
-use lib.ListN.{length, drop, getD, set, replicate, getD-replicate}
+use lib.ListN.{length, drop, getD, set, replicate, length-set, getD-replicate}
 use lib.Seq.{sets, getD-drop, getD-set-same, getD-set-other}
 use borrow.Author.Tests.{eq-eqb, eqb-true, eqb-false}
 use Rattle.floor.specs.declared.Refusal.{Refusal}
@@ -239,22 +239,51 @@ module _ (s heads nexts : List ℕ) (n : ℕ) (k : Indexed n s heads nexts) (r :
 
 -- ---- a record
 
--- numbers stored after n roads leave their remainders
-pub stored-indexed : (n : ℕ) (s heads nexts : List ℕ) (a b l m : ℕ) → Indexed n s heads nexts
-    → Indexed n (set (set (set (set s (4 * n) a) (4 * n + 1) b) (4 * n + 2) l) (4 * n + 3) m) heads nexts
-unfolding bucket-at
-stored-indexed n s heads nexts a b l m k =
-    same-indexed n s _ heads nexts (λ i h. ap₂ bucket (before (4 * i) (omega arith)) (before (4 * i + 1) (omega arith))) k
-  where
-    before : (i : ℕ) → i < 4 * n → getD (set (set (set (set s (4 * n) a) (4 * n + 1) b) (4 * n + 2) l) (4 * n + 3) m) i 0 ≡ getD s i 0
-    before i h =
-        let one : List ℕ = set s (4 * n) a in
-        let two : List ℕ = set one (4 * n + 1) b in
-        let three : List ℕ = set two (4 * n + 2) l in
-        getD-set-other three (4 * n + 3) i m 0 (λ q. omega arith)
-        ∙ getD-set-other two (4 * n + 2) i l 0 (λ q. omega arith)
-        ∙ getD-set-other one (4 * n + 1) i b 0 (λ q. omega arith)
-        ∙ getD-set-other s (4 * n) i a 0 (λ q. omega arith)
+-- four numbers stored after n roads
+module _ (n : ℕ) (s : List ℕ) (a b l m : ℕ) where
+  abbrev pub four-stored : List ℕ
+  four-stored = set (set (set (set s (4 * n) a) (4 * n + 1) b) (4 * n + 2) l) (4 * n + 3) m
+
+  -- those before them stay
+  before-stored : (i : ℕ) → i < 4 * n → getD four-stored i 0 ≡ getD s i 0
+  before-stored i h =
+      let one : List ℕ = set s (4 * n) a in
+      let two : List ℕ = set one (4 * n + 1) b in
+      let three : List ℕ = set two (4 * n + 2) l in
+      getD-set-other three (4 * n + 3) i m 0 (λ q. omega arith)
+      ∙ getD-set-other two (4 * n + 2) i l 0 (λ q. omega arith)
+      ∙ getD-set-other one (4 * n + 1) i b 0 (λ q. omega arith)
+      ∙ getD-set-other s (4 * n) i a 0 (λ q. omega arith)
+
+  -- and their index
+  pub stored-indexed : (heads nexts : List ℕ) → Indexed n s heads nexts → Indexed n four-stored heads nexts
+  unfolding bucket-at
+  stored-indexed heads nexts k =
+      same-indexed n s four-stored heads nexts (λ i h. ap₂ bucket (before-stored (4 * i) (omega arith)) (before-stored (4 * i + 1) (omega arith))) k
+
+  -- the remainder of the road that is stored
+  pub stored-bucket : 4 * n + 4 ≤ length s → bucket-at four-stored n ≡ bucket a b
+  unfolding bucket-at
+  stored-bucket room = ap₂ bucket first second
+    where
+      first : getD four-stored (4 * n) 0 ≡ a
+      first =
+          let one : List ℕ = set s (4 * n) a in
+          let two : List ℕ = set one (4 * n + 1) b in
+          let three : List ℕ = set two (4 * n + 2) l in
+          getD-set-other three (4 * n + 3) (4 * n) m 0 (λ q. omega arith)
+          ∙ getD-set-other two (4 * n + 2) (4 * n) l 0 (λ q. omega arith)
+          ∙ getD-set-other one (4 * n + 1) (4 * n) b 0 (λ q. omega arith)
+          ∙ getD-set-same s (4 * n) a 0 (omega arith)
+
+      second : getD four-stored (4 * n + 1) 0 ≡ b
+      second =
+          let one : List ℕ = set s (4 * n) a in
+          let two : List ℕ = set one (4 * n + 1) b in
+          let three : List ℕ = set two (4 * n + 2) l in
+          getD-set-other three (4 * n + 3) (4 * n + 1) m 0 (λ q. omega arith)
+          ∙ getD-set-other two (4 * n + 2) (4 * n + 1) l 0 (λ q. omega arith)
+          ∙ getD-set-same one (4 * n + 1) b 0 (omega (arith, length-set s (4 * n) a))
 
 -- what is left of one that is refused
 pub road-refused : (n : ℕ) (s heads nexts : List ℕ) (j : Judged Road) (r : Refusal) → j ≡ refused r

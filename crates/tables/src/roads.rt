@@ -9,6 +9,7 @@ ghost use mathlib.Core.Path.{_≡_};
 ghost use mathlib.Core.List.{List, [], flatMap};
 ghost use Prim.Native.Nat.{ℕ, _+_, _*_, _≤_, _<_};
 ghost use lib.ListN.{length, drop, replicate};
+ghost use lib.Seq.{sets};
 ghost use Rattle.words.specs.Words.{padded};
 ghost use Rattle.csv.specs.Records.{records};
 ghost use Rattle.floor.specs.Refusal.{accepted, records-in-order};
@@ -58,13 +59,27 @@ pub(crate) fn is_joined(
     false
 }
 
-// Links road n, whose numbers follow those of n roads that are linked.
-fn link_road(roads: &[u32], n: usize, heads: &mut [u16], nexts: &mut [u16])
+// Puts a road after n roads, and links it.
+fn put_road(
+    from: u32,
+    to: u32,
+    len: u32,
+    margin: u32,
+    n: usize,
+    roads: &mut [u32],
+    heads: &mut [u16],
+    nexts: &mut [u16],
+)
     requires { ⌜ (n < 1024) × (4096 ≤ length (now roads)) ⌝ }
     requires { ⌜ (length (now heads) ≡ 1024) × (length (now nexts) ≡ 1024) × Indexed n (now roads) (now heads) (now nexts) ⌝ }
-    ensures { λ _. ⌜ Indexed (n + 1) (now (roads .entry)) (now (heads .exit)) (now (nexts .exit)) ⌝ }
+    ensures left { λ _. ⌜ now (roads .exit) ≡ sets (now (roads .entry)) (4 * n) (road-numbers (record { from = from; to = to; length = len; margin = margin })) ⌝ }
+    ensures index { λ _. ⌜ Indexed (n + 1) (now (roads .exit)) (now (heads .exit)) (now (nexts .exit)) ⌝ }
 {
-    let b = bucket_of(roads[4 * n], roads[4 * n + 1]);
+    roads[4 * n] = from;
+    roads[4 * n + 1] = to;
+    roads[4 * n + 2] = len;
+    roads[4 * n + 3] = margin;
+    let b = bucket_of(from, to);
     nexts[n] = heads[b];
     heads[b] = (n + 1) as u16;
 }
@@ -123,11 +138,7 @@ fn take_road(row: &[u8], n: usize, roads: &mut [u32], heads: &mut [u16], nexts: 
     if 1024 <= n {
         return Taken::Refused(Reason::Limit);
     }
-    roads[4 * n] = from;
-    roads[4 * n + 1] = to;
-    roads[4 * n + 2] = len;
-    roads[4 * n + 3] = margin;
-    link_road(roads, n, heads, nexts);
+    put_road(from, to, len, margin, n, roads, heads, nexts);
     Taken::Kept
 }
 

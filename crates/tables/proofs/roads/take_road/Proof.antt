@@ -17,7 +17,7 @@ use Rattle.floor.specs.Plan.{Road, joined}
 use Rattle.floor.specs.Roads.{road, road-ranges}
 use Rattle.tables.specs.Arrays.{road-numbers, roads-in}
 use Rattle.tables.proofs.RoadRecords.{road-of, at-next, road-malformed, road-count, road-range, road-self, road-second, road-over, road-taken, ranges-exact, ranges-broken, read-whole, roads-in-length}
-use Rattle.tables.proofs.Indexes.{stored-indexed, road-refused, road-linked}
+use Rattle.tables.proofs.Indexes.{road-refused, road-linked}
 use Rattle.tables.proofs.roads.take_road.Statement.{statement}
 use Rattle.tables.proofs.roads.take_road.Tie as tie
 
@@ -117,14 +117,6 @@ apart c =
     let a = s .before .before .before .before .before .before .before .before .before .before .before .before .before .args in
     ap (λ (d : Road). joined (roads-in (a .n) (a .roads .now)) (d .from) (d .to)) (sym (exact s)) ∙ sym (c .before .is-joined .ensures) ∙ c .if4 .left
 
--- four stores in a row
-four-stores : (s : List ℕ) (i a b l m : ℕ) → set (set (set (set s i a) (i + 1) b) (i + 2) l) (i + 3) m ≡ sets s i (a ∷ b ∷ l ∷ m ∷ [])
-four-stores s i a b l m =
-    let one : i + 1 ≡ suc i = omega arith in
-    let two : i + 2 ≡ suc (suc i) = omega arith in
-    let three : i + 3 ≡ suc (suc (suc i)) = omega arith in
-    rw (one, two, three)
-
 returns-4 : tie.Need-returns-4
 returns-4 c =
     let e = c .before in
@@ -185,60 +177,10 @@ returns-6 c =
     road-refused (a .n) (a .roads .now) _ _ (road before (a .row .now)) (at-next before Limit)
     (road-over before (a .row .now) ns given (sym n ∙ four) (in-range e) (other (c .before .before .before .before .before .before)) (apart (c .before)) (omega (arith, roads-in-length (a .n) (a .roads .now), c .if5 .taken)))
 
-mul-roads : tie.Need-mul-roads
-mul-roads c = search needs
-
-mul-roads-2 : tie.Need-mul-roads-2
-mul-roads-2 c = search needs
-
-slice-write-roads : tie.Need-slice-write-roads
-slice-write-roads c = search needs
-
-mul-roads-3 : tie.Need-mul-roads-3
-mul-roads-3 c = search needs
-
-add-roads : tie.Need-add-roads
-add-roads c = search needs
-
-mul-roads-4 : tie.Need-mul-roads-4
-mul-roads-4 c = search needs
-
-slice-write-roads-2 : tie.Need-slice-write-roads-2
-slice-write-roads-2 c = simp length-set (omega arith)
-
-mul-roads-5 : tie.Need-mul-roads-5
-mul-roads-5 c = search needs
-
-add-roads-2 : tie.Need-add-roads-2
-add-roads-2 c = search needs
-
-mul-roads-6 : tie.Need-mul-roads-6
-mul-roads-6 c = search needs
-
-slice-write-roads-3 : tie.Need-slice-write-roads-3
-slice-write-roads-3 c = simp length-set (omega arith)
-
-mul-roads-7 : tie.Need-mul-roads-7
-mul-roads-7 c = search needs
-
-add-roads-3 : tie.Need-add-roads-3
-add-roads-3 c = search needs
-
-mul-roads-8 : tie.Need-mul-roads-8
-mul-roads-8 c = search needs
-
-slice-write-roads-4 : tie.Need-slice-write-roads-4
-slice-write-roads-4 c = simp length-set (omega arith)
-
--- its numbers follow theirs, and their index stands
-link-road-requires : tie.Need-link-road-requires
-link-road-requires c κs =
-    let e = c .before .before .before in
-    let z = e .before .before .before .before .before .before .before .before .before .before .before .before .before .before .before .before .before .before .before .before in
-    let a = z .args in (
-      (omega arith, simp length-set (omega arith)),
-      (z .pre .1 .0, z .pre .1 .1, stored-indexed (a .n) (a .roads .now) (a .heads .now) (a .nexts .now) _ _ _ _ (z .pre .1 .2)),
-    )
+put-road-requires : tie.Need-put-road-requires
+put-road-requires c κs =
+    let z = c .before .before .before .before .before .before .before .before .before .before .before .before .before .before .before .before .before .before .before .before .before .before .before in
+    ((omega arith, z .pre .0 .1), z .pre .1)
 
 same-length-7 : tie.Need-same-length-7
 same-length-7 c = search needs
@@ -250,9 +192,8 @@ same-length-9 : tie.Need-same-length-9
 same-length-9 c = search needs
 
 returns-7 : tie.Need-returns-7
-unfolding road-numbers
 returns-7 c =
-    let f = c .before .before .before .before in
+    let f = c .before .before .before .before .before .before in
     let q = f .before .before .before .before in
     let e = q .before .before .before .before .before .before .before in
     let k = e .before .before .before in
@@ -264,8 +205,7 @@ returns-7 c =
     let same = exact e in
     road-linked (a .n) (a .roads .now) _ _ _ (road before (a .row .now)) (road-of ns)
     (road-taken before (a .row .now) ns given (sym n ∙ four) (in-range e) (other (q .before .before .before .before .before .before)) (apart (q .before)) (omega (arith, roads-in-length (a .n) (a .roads .now), q .if5 .left)))
-    (four-stores (a .roads .now) (4 * a .n) _ _ _ _ ∙ ap (λ (d : Road). sets (a .roads .now) (4 * a .n) (road-numbers d)) same)
-    (f .link-road .ensures)
+    (f .put-road .ensures .0 ∙ ap (λ (d : Road). sets (a .roads .now) (4 * a .n) (road-numbers d)) same) (f .put-road .ensures .1)
 
 pub take-road-spec : {M : Type 1} → statement M
 take-road-spec =
@@ -293,22 +233,7 @@ take-road-spec =
     same-length-5
     same-length-6
     returns-6
-    mul-roads
-    mul-roads-2
-    slice-write-roads
-    mul-roads-3
-    add-roads
-    mul-roads-4
-    slice-write-roads-2
-    mul-roads-5
-    add-roads-2
-    mul-roads-6
-    slice-write-roads-3
-    mul-roads-7
-    add-roads-3
-    mul-roads-8
-    slice-write-roads-4
-    link-road-requires
+    put-road-requires
     same-length-7
     same-length-8
     same-length-9
