@@ -350,9 +350,9 @@ but-last-same f g (x ∷ []) h = refl
 but-last-same f g (x ∷ (y ∷ ys)) h = omega (arith, h x, but-last-same f g (y ∷ ys) h)
 
 -- the order bounds of a plan
-pub orders-are : (p : Plan) → length (p .carts) ≡ length (p .paths) → length (order-bounds (routes-of p)) ≡ orders-among (stops 1 (p .paths))
+pub order-count-is : (p : Plan) → length (p .carts) ≡ length (p .paths) → length (order-bounds (routes-of p)) ≡ orders-among (stops 1 (p .paths))
 unfolding order-bounds orders-among routes-of
-orders-are p h =
+order-count-is p h =
     let rs : List Route = routes-of p in
     let all : List Stop = stops 1 (p .paths) in
     length-flat (λ (j : Route). flatMap (λ (x : Visit). flatMap (order-bounds-to j x) rs) (j .visits)) rs
@@ -393,7 +393,7 @@ bounds-are p h =
       finish-count (finish-event p) rs,
       route-count (p .carts) (p .paths) 1 1 h,
       travels-count (p .roads) (p .carts) (p .paths) 1 1 h,
-      orders-are p h,
+      order-count-is p h,
     )
 
 -- ---- the limits

@@ -9,6 +9,7 @@ use lib.Dec.{leb}
 use lib.ListN.{length, take, drop, length-drop}
 use lib.Seq.{length-take-le}
 use borrow.Author.Tests.{le-leb, lt-leb}
+use Rattle.tables.proofs.PathRecords.{paths-in-length}
 use Rattle.tables.specs.Arrays.{paths-in}
 use Rattle.network.specs.Events.{visits-of, points}
 use Rattle.limits.specs.Limits.{of-paths, limits-kept, paths-within}
@@ -16,12 +17,6 @@ use Rattle.limits.specs.Counts.{total, moves, stops, orders-from, orders
 use Rattle.limits.proofs.Counts.{path-points, point-count, limits-are}
 
 -- ---- paths in an array
-
--- as many as there are to be
-path-count : (n w : ℕ) (s : List ℕ) → length (paths-in n w s) ≡ n
-unfolding paths-in
-path-count zero w s = refl
-path-count (suc n) w s = ap suc (path-count n w (drop w s))
 
 -- a path with a cell has three points for each move, and one
 path-events : (q : List ℕ) → 1 ≤ length q → path-points q ≡ suc (3 * moves q)
@@ -97,7 +92,7 @@ module _ (n w : ℕ) (s : List ℕ) where
       → leb (2 * n + 3 * total moves (paths-in n w s) + orders-among (stops 1 (paths-in n w s))) 8192 ≡ paths-within n w s
   bounds-found h k l under =
       let ps : List (List ℕ) = paths-in n w s in
-      ap (λ (c : ℕ). leb (2 * c + 3 * total moves ps + orders-among (stops 1 ps)) 8192) (sym (path-count n w s))
+      ap (λ (c : ℕ). leb (2 * c + 3 * total moves ps + orders-among (stops 1 ps)) 8192) (sym (paths-in-length n w s))
       ∙ ap (λ (b : Bool). b && leb (2 * length ps + 3 * total moves ps + orders-among (stops 1 ps)) 8192) (sym (le-leb (2 + total path-points ps) 4096 under))
       ∙ sym (limits-are ps)
       ∙ all-there h k l
