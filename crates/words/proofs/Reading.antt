@@ -1,8 +1,8 @@
 -- A number read from where it was written is that number, and what is written over a slice's front stands there. Assumes nothing.
 use Prim.Native.Nat.{ℕ, zero, suc, _+_, _*_, _/_, _%_, _^_, _<_}
-use native.Mathlib.Nat.{pow-succ', mod-add-div, div-lt-iff-lt-mul, mul-comm, mul-zero, mul-suc, not-suc-le-zero, le-of-suc-le-suc}
+use native.Mathlib.Nat.{pow-succ', mod-add-div, mod-eq-of-lt, div-eq-of-lt, add-mul-mod-self-left, add-mul-div-left, div-lt-iff-lt-mul, mul-comm, mul-zero, mul-suc, not-suc-le-zero, le-of-suc-le-suc}
 use native.Mathlib.Omega.{arith}
-use mathlib.Core.Path.{_≡_, refl, ap, sym, _∙_, subst}
+use mathlib.Core.Path.{_≡_, refl, ap, ap₂, sym, _∙_, subst}
 use mathlib.Core.List.{List, [], _∷_, _++_, append-assoc}
 use lib.Dec.{lit<}
 use lib.ListN.{length, take, drop, getD, length-append}
@@ -28,6 +28,16 @@ little-word zero n h = omega arith
 little-word (suc k) n h =
     let less : n / 256 < 256 ^ k = div-lt-iff-lt-mul {k = 256} {x = n} {y = 256 ^ k} (lit< tt) .1 (subst (λ (x : ℕ). n < x) (pow-succ' 256 k ∙ mul-comm 256 (256 ^ k)) h) in
     ap (λ (x : ℕ). n % 256 + 256 * x) (little-word k (n / 256) less) ∙ mod-add-div n 256
+
+-- and the number that some bytes say has these bytes
+pub word-little : (bs : List ℕ) → ((i : ℕ) → getD bs i 0 < 256) → word (length bs) (little bs) ≡ bs
+unfolding little word
+word-little [] h = refl
+word-little (b ∷ bs) h =
+    let less : b < 256 = h 0 in
+    let high : b / 256 + little bs ≡ little bs = omega (arith, div-eq-of-lt less) in
+    ap₂ {C = List ℕ} _∷_ (add-mul-mod-self-left b 256 (little bs) ∙ mod-eq-of-lt less)
+    (ap (word (length bs)) (add-mul-div-left b (little bs) (lit< tt) ∙ high) ∙ word-little bs (λ i. h (suc i)))
 
 -- one word further on, past the first
 past-word : (k n : ℕ) (ns rest : List ℕ) (i : ℕ) → drop (k * suc i) (words k (n ∷ ns) ++ rest) ≡ drop (k * i) (words k ns ++ rest)

@@ -2,7 +2,10 @@
 -- Assumes nothing.
 use Prim.Native.Nat.{ℕ, zero, suc, _+_, _*_, _-_, _/_, _%_}
 use mathlib.Core.List.{List, [], _∷_, _++_}
+use mathlib.Core.Bool.{cond}
+use lib.Dec.{leb}
 use lib.ListN.{length, take, drop, replicate}
+use lib.Seq.{sets}
 
 -- the number that some bytes say
 unfoldable pub little : List ℕ → ℕ
@@ -23,6 +26,10 @@ words k (n ∷ ns) = word k n ++ words k ns
 unfoldable pub word-at : ℕ → List ℕ → ℕ → ℕ
 word-at k s i = little (take k (drop (k * i) s))
 
+-- a number written at place i, of k bytes; a slice without that place stays as it came
+unfoldable pub with-word : ℕ → List ℕ → ℕ → ℕ → List ℕ
+with-word k s i n = cond (leb (k * suc i) (length s)) (sets s (k * i) (word k n)) s
+
 -- a slice whose front is written over: its other places stay as they came
 unfoldable pub written : List ℕ → List ℕ → List ℕ
 written front s = front ++ drop (length front) s
@@ -33,5 +40,5 @@ padded n l = l ++ replicate (n - length l) 0
 
 -- Names every definition of this module, for a proof that computes with them all.
 unfoldable pub open-words : Unit {0}
-unfolding little word words word-at written padded
+unfolding little word words word-at with-word written padded
 open-words = tt
