@@ -1,16 +1,17 @@
 -- A record of the table of carts, case by case, as the code meets them. Assumes nothing.
-use Prim.Native.Nat.{ℕ, zero, suc, _+_, _*_, _≤_, _<_}
+use Prim.Native.Nat.{ℕ, zero, suc, _+_, _*_, _-_, _≤_, _<_}
 use native.Mathlib.Numerals.{add-one}
 use native.Mathlib.Omega.{arith}
 use mathlib.Core.Path.{_≡_, refl, ap, ap₂, sym, _∙_, subst}
 use mathlib.Core.Bool.{Bool, true, false, _&&_, not, cond}
-use mathlib.Core.List.{List, [], _∷_, flatMap}
-use mathlib.Core.Option.{Option, none, some}
+use mathlib.Core.List.{List, [], _∷_, _++_, flatMap, List·Memᴰ, List·Memᴰ·head, List·Memᴰ·tail}
+use mathlib.Core.Option.{Option, none, some, Option·getD}
 use mir.Facts.{and-yes}
 use lib.Dec.{T, leb, eqb, leb→le}
-use lib.ListN.{length, drop, getD, set}
+use lib.ListN.{length, drop, getD, set, replicate}
 use lib.Seq.{sets}
 use borrow.Author.Tests.{lt-leb, le-leb, ne-eqb, not-true, not-false}
+use Rattle.words.specs.Words.{padded}
 use Rattle.csv.specs.declared.Number.{Number}
 use Rattle.csv.specs.Text.{bytes, same}
 use Rattle.csv.specs.Records.{records, first-record, fields, field-at}
@@ -30,7 +31,7 @@ use Rattle.floor.specs.Carts.{number-or-empty, fastest-range, slowest-range, ca
 use Rattle.tables.specs.Arrays.{cart-numbers, carts-in}
 use Rattle.tables.specs.Reading.{taken, stored, counted, speeds, speeds-of}
 use Rattle.floor.proofs.Judging.{pass, stop, goes-on, ends}
-use Rattle.floor.proofs.Accepted.{cart-sound}
+use Rattle.floor.proofs.Accepted.{SoundCart, cart-sound}
 use Rattle.tables.proofs.FirstLine.{at-none, bytes-over, bytes-within, line-other, line-there, counted-read, counted-refused}
 use Rattle.tables.proofs.Turns.{Says, says-need, says-given, left-refused, left-taken, refused-there, accepted-there, flat-length, Turn, Ends, refused-ends, refused-turn, taken-turn}
 
@@ -337,3 +338,29 @@ module _ (b : List ℕ) (size : ℕ) (s : List ℕ) where
         read-refused r e =
             let j : read-carts b ≡ refused r = listed ∙ ends _ _ r (counted-refused (records-in-order cart [] (records (drop 17 b))) r (sym e ∙ from .0)) in
             subst (λ (y : Count). Ends cart cart-numbers (read-carts b) size y s) (sym e) (refused-ends cart cart-numbers (read-carts b) size s r j)
+
+-- ---- carts in an array
+
+-- a slowest speed comes back from its number, where it is not 0
+slowest-back : (c : Cart) → SoundCart c → elim (Option·getD (c .slowest) 0) [ zero ↦ none | suc v ↦ some (suc v) ] ≡ c .slowest
+slowest-back c s = by (c .slowest) refl
+  where
+    at : (v : ℕ) → 1 ≤ v → elim v [ zero ↦ none | suc u ↦ some (suc u) ] ≡ some v
+    at zero l = absurd (omega arith)
+    at (suc v) l = refl
+
+    by : (o : Option ℕ) → c .slowest ≡ o → elim (Option·getD o 0) [ zero ↦ none | suc v ↦ some (suc v) ] ≡ o
+    by none e = refl
+    by (some v) e = at v (let (least, most) = s .slow v e in omega (arith, least))
+
+-- the carts whose numbers were stored are those that are there
+cart-by-cart : (cs : List Cart) (z : List ℕ) → ((c : Cart) → List·Memᴰ c cs → SoundCart c) → carts-in (length cs) (flatMap cart-numbers cs ++ z) ≡ cs
+unfolding carts-in cart-numbers flatMap
+cart-by-cart [] z h = refl
+cart-by-cart (c ∷ cs) z h =
+    ap₂ (λ (o : Option ℕ) (x : List Cart). record { fastest = c .fastest; slowest = o } ∷ x) (slowest-back c (h c (List·Memᴰ·head refl)))
+    (cart-by-cart cs z (λ x m. h x (List·Memᴰ·tail m)))
+
+pub carts-held : (n : ℕ) (cs : List Cart) → ((c : Cart) → List·Memᴰ c cs → SoundCart c) → carts-in (length cs) (padded n (flatMap cart-numbers cs)) ≡ cs
+unfolding padded
+carts-held n cs h = cart-by-cart cs (replicate (n - length (flatMap cart-numbers cs)) 0) h

@@ -1,34 +1,24 @@
--- What the searches for refusals 7, 8 and 9 answer: a record, which counts from 1, or 0 where there is none. Assumes nothing.
-use Prim.Native.Nat.{ℕ, zero, suc, _<_}
+-- What refusals 7, 8 and 9 make of what was found. Assumes nothing.
+use Prim.Native.Nat.{ℕ, suc, _*_, _≤_, _<_}
 use native.Mathlib.Omega.{arith}
-use mathlib.Core.Path.{_≡_, refl, _∙_}
+use mathlib.Core.Path.{_≡_, refl, sym, _∙_}
 use mathlib.Core.Bool.{Bool, true, false, cond}
-use mathlib.Core.List.{List, [], _∷_, _++_}
-use mathlib.Core.Option.{Option, none, some}
+use mathlib.Core.List.{List, [], _∷_}
+use mathlib.Core.Option.{none, some}
+use lib.ListN.{length}
 use Rattle.floor.specs.declared.Reason.the-variants.{OffRoad, SameCell, Exchange}
 use Rattle.floor.specs.declared.Table.the-variants.{Paths}
-use Rattle.floor.specs.Refusal.{refused, accepted, next}
+use Rattle.floor.specs.Refusal.{refused, accepted}
 use Rattle.floor.specs.Plan.{Road}
-use Rattle.floor.specs.Paths.{on-roads, off-road, collides, first-collision, earliest, same-cell, exchange, first-same-cell, first-exchange, steps}
-use Rattle.tables.specs.Reading.{found, apart}
+use Rattle.floor.specs.Paths.{on-roads, off-road, first-same-cell, first-exchange}
+use Rattle.collisions.specs.declared.Meeting.{Meeting}
+use Rattle.collisions.specs.Meetings.{paths-in, found, meeting}
+use Rattle.tables.specs.declared.PathsRead.{PathsRead}
+use Rattle.tables.specs.Reading.{paths-read, apart}
+use Rattle.collisions.proofs.Searches.{steps-all}
+use Rattle.collisions.proofs.Found.{FromOne, found-none, found-some, same-is, exchange-is}
 use Rattle.floor.proofs.Judging.{clear, meets, none-found-accepted, accepted-same}
-
--- a record that is found counts from 1
-abbrev pub FromOne : Option ℕ → Type 0
-FromOne none = Unit {0}
-FromOne (some i) = 0 < i
-
--- 0 is none
-pub found-none : (o : Option ℕ) → FromOne o → found o ≡ 0 → o ≡ none
-unfolding found
-found-none none h e = refl
-found-none (some i) h e = absurd (omega arith)
-
--- any other is one
-pub found-some : (o : Option ℕ) → (found o ≡ 0 → ⊥) → o ≡ some (found o)
-unfolding found
-found-some none h = absurd (h refl)
-found-some (some i) h = refl
+use Rattle.tables.proofs.PathRecords.{paths-in-length}
 
 -- a path that leaves the roads
 off-road-from : (rs : List Road) (i : ℕ) (ps : List (List ℕ)) → 0 < i → FromOne (off-road rs i ps)
@@ -40,41 +30,9 @@ off-road-from rs i (p ∷ ps) h = by (on-roads rs p) (off-road-from rs (suc i) p
     by true more = more
     by false more = h
 
--- a collision
-collision-from : {A : Type 0} (f : A → A → Bool) (before xs : List A) → FromOne (first-collision f before xs)
-unfolding first-collision next
-collision-from f before [] = tt
-collision-from f before (x ∷ xs) = by (collides f x before) (collision-from f (before ++ (x ∷ [])) xs)
-  where
-    by : (t : Bool) → FromOne (first-collision f (before ++ (x ∷ [])) xs) → FromOne (cond t (some (next before)) (first-collision f (before ++ (x ∷ [])) xs))
-    by true more = omega arith
-    by false more = more
-
--- at the earliest step
-earliest-from : (f : ℕ → Option ℕ) → ((s : ℕ) → FromOne (f s)) → (s n : ℕ) → FromOne (earliest f s n)
-unfolding earliest
-earliest-from f h s zero = tt
-earliest-from f h s (suc n) = by (f s) (h s) (earliest-from f h (suc s) n)
-  where
-    by : (o : Option ℕ) → FromOne o → FromOne (earliest f (suc s) n) → FromOne (elim o as (λ _. Option ℕ) [ none ↦ earliest f (suc s) n | some i ↦ some i ])
-    by none one more = more
-    by (some i) one more = one
-
 module _ (rs : List Road) (ps : List (List ℕ)) where
   off-from : FromOne (off-road rs 1 ps)
   off-from = off-road-from rs 1 ps (omega arith)
-
-  same-from : FromOne (first-same-cell ps)
-  unfolding first-same-cell same-cell
-  same-from = earliest-from (same-cell ps) (λ s. collision-from _ [] _) 0 (steps ps)
-
-  -- no two carts in one cell
-  pub none-same : found (first-same-cell ps) ≡ 0 → first-same-cell ps ≡ none
-  none-same = found-none _ same-from
-
-  exchange-from : FromOne (first-exchange ps)
-  unfolding first-exchange exchange
-  exchange-from = earliest-from (exchange ps) (λ s. collision-from _ [] _) 0 _
 
   -- what is kept is what was there
   pub apart-are : (qs : List (List ℕ)) → apart rs ps ≡ accepted qs → ps ≡ qs
@@ -92,21 +50,46 @@ module _ (rs : List Road) (ps : List (List ℕ)) where
 
   module _ (on : found (off-road rs 1 ps) ≡ 0) where
     -- two carts in one cell
-    pub apart-same : (found (first-same-cell ps) ≡ 0 → ⊥) → apart rs ps ≡ refused (record { reason = SameCell; table = Paths; row = found (first-same-cell ps) })
+    pub apart-same : (i : ℕ) → first-same-cell ps ≡ some i → apart rs ps ≡ refused (record { reason = SameCell; table = Paths; row = i })
     unfolding apart
-    apart-same h = clear (off-road rs 1 ps) OffRoad _ (found-none _ off-from on) ∙ meets (first-same-cell ps) SameCell _ _ (found-some _ h)
+    apart-same i e = clear (off-road rs 1 ps) OffRoad _ (found-none _ off-from on) ∙ meets (first-same-cell ps) SameCell _ i e
 
-    module _ (alone : found (first-same-cell ps) ≡ 0) where
+    module _ (alone : first-same-cell ps ≡ none) where
       -- two that exchange cells
-      pub apart-exchange : (found (first-exchange ps) ≡ 0 → ⊥) → apart rs ps ≡ refused (record { reason = Exchange; table = Paths; row = found (first-exchange ps) })
+      pub apart-exchange : (i : ℕ) → first-exchange ps ≡ some i → apart rs ps ≡ refused (record { reason = Exchange; table = Paths; row = i })
       unfolding apart
-      apart-exchange h =
-          clear (off-road rs 1 ps) OffRoad _ (found-none _ off-from on) ∙ clear (first-same-cell ps) SameCell _ (none-same alone)
-          ∙ meets (first-exchange ps) Exchange _ _ (found-some _ h)
+      apart-exchange i e =
+          clear (off-road rs 1 ps) OffRoad _ (found-none _ off-from on) ∙ clear (first-same-cell ps) SameCell _ alone ∙ meets (first-exchange ps) Exchange _ i e
 
       -- neither
-      pub apart-kept : found (first-exchange ps) ≡ 0 → apart rs ps ≡ accepted ps
+      pub apart-kept : first-exchange ps ≡ none → apart rs ps ≡ accepted ps
       unfolding apart
-      apart-kept h =
-          clear (off-road rs 1 ps) OffRoad _ (found-none _ off-from on) ∙ clear (first-same-cell ps) SameCell _ (none-same alone)
-          ∙ clear (first-exchange ps) Exchange _ (found-none _ exchange-from h)
+      apart-kept e =
+          clear (off-road rs 1 ps) OffRoad _ (found-none _ off-from on) ∙ clear (first-same-cell ps) SameCell _ alone ∙ clear (first-exchange ps) Exchange _ e
+
+-- ---- of paths in an array
+
+module _ (rs : List Road) (n w : ℕ) (s : List ℕ) {off : ℕ} (e : off ≡ found (off-road rs 1 (paths-in n w s))) where
+  -- a path off the roads
+  pub judged-off : (off ≡ 0 → ⊥) → PathsRead.Refused (record { reason = OffRoad; table = Paths; row = off }) ≡ paths-read (apart rs (paths-in n w s))
+  unfolding paths-read
+  judged-off h = rw (apart-off rs (paths-in n w s) (λ q. h (e ∙ q)), ← e)
+
+  module _ (on : off ≡ 0) (fits : n * w ≤ length s) where
+    -- two carts in one cell
+    pub judged-same : (i : ℕ) → Meeting.SameCell i ≡ meeting n w s
+        → PathsRead.Refused (record { reason = SameCell; table = Paths; row = i }) ≡ paths-read (apart rs (paths-in n w s))
+    unfolding paths-read
+    judged-same i m = rw (apart-same rs (paths-in n w s) (sym e ∙ on) i (same-is n w s fits m))
+
+    -- two that exchange cells
+    pub judged-exchange : (i : ℕ) → Meeting.Exchange i ≡ meeting n w s
+        → PathsRead.Refused (record { reason = Exchange; table = Paths; row = i }) ≡ paths-read (apart rs (paths-in n w s))
+    unfolding paths-read
+    judged-exchange i m = rw (apart-exchange rs (paths-in n w s) (sym e ∙ on) (same-is n w s fits m) i (exchange-is n w s fits m refl))
+
+    -- neither
+    pub judged-kept : 0 < n → Meeting.Apart ≡ meeting n w s → PathsRead.Read n w ≡ paths-read (apart rs (paths-in n w s))
+    unfolding paths-read
+    judged-kept h m =
+        rw (apart-kept rs (paths-in n w s) (sym e ∙ on) (same-is n w s fits m) (exchange-is n w s fits m refl), paths-in-length n w s, steps-all n w s h fits)

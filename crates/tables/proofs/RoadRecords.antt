@@ -2,19 +2,21 @@
 use Prim.Native.Nat.{ℕ, zero, suc, _*_, _-_, _≤_, _<_}
 use native.Mathlib.Omega.{arith}
 use mathlib.Core.Path.{_≡_, refl, ap, sym, _∙_, subst}
-use mathlib.Core.Bool.{Bool, true, false, _&&_, not}
+use mathlib.Core.Bool.{Bool, true, false, _&&_, not, cond}
 use mathlib.Core.List.{List, [], _∷_, _++_, map, flatMap, append-nil}
-use mathlib.Core.Option.{none, some}
+use mathlib.Core.Option.{Option, none, some, Option·some-ne-none, Option·none-ne-some, Option·some-injective}
 use mir.Facts.{and-yes}
 use lib.Dec.{T, leb, eqb, leb→le, ltb→lt}
 use lib.ListN.{length, take, drop, getD, replicate, length-map, List·getD-map, drop-of-length-le}
 use lib.Seq.{take-length}
-use borrow.Author.Tests.{lt-leb, le-leb, eq-eqb, ne-eqb}
+use borrow.Author.Tests.{lt-leb, le-leb, eq-eqb, ne-eqb, not-true, not-false}
 use Rattle.laws.proofs.Tests.{fails}
 use Rattle.words.specs.Words.{padded, written}
 use Rattle.csv.specs.Records.{fields}
+use Rattle.csv.specs.declared.Fields.{Fields}
 use Rattle.csv.specs.Number.{numbers, leading, capped}
-use Rattle.csv.proofs.Reading.{leading-all, capped-small}
+use Rattle.csv.specs.Answers.{fields-answer}
+use Rattle.csv.proofs.Reading.{leading-all, capped-small, answered-numbers}
 use Rattle.floor.specs.declared.Reason.{Reason}
 use Rattle.floor.specs.declared.Reason.the-variants.{Layout, Range, RoadPair, Limit}
 use Rattle.floor.specs.declared.Table.the-variants.{Roads}
@@ -22,7 +24,9 @@ use Rattle.floor.specs.declared.Refusal.{Refusal}
 use Rattle.floor.specs.Refusal.{Judged, refused, accepted, _>>_, need, next}
 use Rattle.floor.specs.Plan.{Road, joined}
 use Rattle.floor.specs.Roads.{cell-range, road-ranges, road}
+use Rattle.tables.specs.declared.RoadRead.{RoadRead}
 use Rattle.tables.specs.Arrays.{road-numbers, roads-in}
+use Rattle.tables.specs.Reading.{road-read}
 use Rattle.floor.proofs.Judging.{pass, stop, got, lacks, then-accepted, and-given-accepted}
 use Rattle.tables.proofs.Turns.{Says, says-need, says-given}
 
@@ -30,10 +34,9 @@ use Rattle.tables.proofs.Turns.{Says, says-need, says-given}
 abbrev pub road-of : List ℕ → Road
 road-of ns = record { from = getD ns 0 0; to = getD ns 1 0; length = getD ns 2 0; margin = getD ns 3 0 }
 
--- the tests after the layout
-abbrev road-tests : List Road → Road → Judged Road
-road-tests before d = do
-  need (road-ranges d) Range Roads (next before)
+-- the tests after the ranges
+abbrev pair-tests : List Road → Road → Judged Road
+pair-tests before d = do
   need (not (eqb (d .from) (d .to)) && not (joined before (d .from) (d .to))) RoadPair Roads (next before)
   need (leb (next before) 1024) Limit Roads (next before)
   accepted d
@@ -41,55 +44,108 @@ road-tests before d = do
 abbrev pub at-next : List Road → Reason → Refusal
 at-next before why = record { reason = why; table = Roads; row = next before }
 
-module _ (before : List Road) (r : List ℕ) where
-  -- a field that is no number
-  pub road-malformed : numbers (fields r) ≡ none → road before r ≡ refused (at-next before Layout)
-  unfolding road
-  road-malformed e = lacks (numbers (fields r)) Layout Roads (next before) _ e
+-- the road of four values
+abbrev pub quad : ℕ → ℕ → ℕ → ℕ → Road
+quad a b l m = record { from = a; to = b; length = l; margin = m }
 
-  module _ (ns : List ℕ) (e : numbers (fields r) ≡ some ns) where
+-- ---- the numbers of a record
+
+module _ (fs : List (List ℕ)) where
+  -- a field that is no number
+  pub read-malformed : numbers fs ≡ none → RoadRead.Refused Layout ≡ road-read (numbers fs)
+  unfolding road-read
+  read-malformed e = rw e
+
+  module _ (ns : List ℕ) (e : numbers fs ≡ some ns) where
     -- not four numbers
-    pub road-count : (length ns ≡ 4 → ⊥) → road before r ≡ refused (at-next before Layout)
-    unfolding road
-    road-count h = got (numbers (fields r)) Layout Roads (next before) _ ns e ∙ stop (eqb (length ns) 4) Layout Roads (next before) _ (ne-eqb _ _ h)
+    read-count : (length ns ≡ 4 → ⊥) → RoadRead.Refused Layout ≡ road-read (numbers fs)
+    unfolding road-read
+    read-count h = rw (e, ne-eqb (length ns) 4 h)
 
     module _ (four : length ns ≡ 4) where
-      -- four numbers
-      road-four : road before r ≡ road-tests before (road-of ns)
-      unfolding road
-      road-four = got (numbers (fields r)) Layout Roads (next before) _ ns e ∙ pass (eqb (length ns) 4) Layout Roads (next before) _ (eq-eqb _ _ four)
+      -- out of their ranges
+      read-range : road-ranges (road-of ns) ≡ false → RoadRead.Refused Range ≡ road-read (numbers fs)
+      unfolding road-read
+      read-range h = rw (e, eq-eqb (length ns) 4 four, h)
 
-      pub road-range : road-ranges (road-of ns) ≡ false → road before r ≡ refused (at-next before Range)
-      road-range h = road-four ∙ stop (road-ranges (road-of ns)) Range Roads (next before) _ h
+      -- in their ranges
+      read-four : road-ranges (road-of ns) ≡ true → RoadRead.Numbers (getD ns 0 0) (getD ns 1 0) (getD ns 2 0) (getD ns 3 0) ≡ road-read (numbers fs)
+      unfolding road-read
+      read-four h = rw (e, eq-eqb (length ns) 4 four, h)
 
-      module _ (in-range : road-ranges (road-of ns) ≡ true) where
-        road-in-range : road before r ≡ (need (not (eqb (getD ns 0 0) (getD ns 1 0)) && not (joined before (getD ns 0 0) (getD ns 1 0))) RoadPair Roads (next before) >> (need (leb (next before) 1024) Limit Roads (next before) >> accepted (road-of ns)))
-        road-in-range = road-four ∙ pass (road-ranges (road-of ns)) Range Roads (next before) _ in-range
+-- ---- the record
 
-        -- "a road from a cell to itself"
-        pub road-self : getD ns 0 0 ≡ getD ns 1 0 → road before r ≡ refused (at-next before RoadPair)
-        road-self h =
-            road-in-range
-            ∙ stop _ RoadPair Roads (next before) _ (ap (λ (b : Bool). not b && not (joined before (getD ns 0 0) (getD ns 1 0))) (eq-eqb _ _ h))
+-- what is said of a record's numbers
+numbers-said : RoadRead → Option Road
+numbers-said (RoadRead.Numbers a b l m) = some (quad a b l m)
+numbers-said (RoadRead.Refused why) = none
 
-        module _ (other : getD ns 0 0 ≡ getD ns 1 0 → ⊥) where
-          pair : (b : Bool) → joined before (getD ns 0 0) (getD ns 1 0) ≡ b → (not (eqb (getD ns 0 0) (getD ns 1 0)) && not (joined before (getD ns 0 0) (getD ns 1 0))) ≡ not b
-          pair b h = ap (λ (x : Bool). not x && not (joined before (getD ns 0 0) (getD ns 1 0))) (ne-eqb _ _ other) ∙ ap not h
+refusal-said : Reason → RoadRead → Reason
+refusal-said other (RoadRead.Numbers a b l m) = other
+refusal-said other (RoadRead.Refused why) = why
 
-          -- "a second road for a pair"
-          pub road-second : joined before (getD ns 0 0) (getD ns 1 0) ≡ true → road before r ≡ refused (at-next before RoadPair)
-          road-second h = road-in-range ∙ stop _ RoadPair Roads (next before) _ (pair true h)
+module _ (before : List Road) (r : List ℕ) where
+  -- a record without a road's numbers
+  pub road-unread : (why : Reason) → RoadRead.Refused why ≡ road-read (numbers (fields r)) → road before r ≡ refused (at-next before why)
+  unfolding road road-read numbers-said refusal-said
+  road-unread why e = by (numbers (fields r)) refl e
+    where
+      by : (o : Option (List ℕ)) → numbers (fields r) ≡ o → RoadRead.Refused why ≡ road-read o → road before r ≡ refused (at-next before why)
+      by none f q = lacks (numbers (fields r)) Layout Roads (next before) _ f ∙ ap (λ (x : Reason). refused (at-next before x)) (ap (refusal-said Layout) (sym q))
+      by (some ns) f q = cases (eqb (length ns) 4) (road-ranges (road-of ns)) refl refl q
+        where
+          cases : (t u : Bool) → eqb (length ns) 4 ≡ t → road-ranges (road-of ns) ≡ u
+              → RoadRead.Refused why ≡ cond t (cond u (RoadRead.Numbers (getD ns 0 0) (getD ns 1 0) (getD ns 2 0) (getD ns 3 0)) (RoadRead.Refused Range)) (RoadRead.Refused Layout)
+              → road before r ≡ refused (at-next before why)
+          cases true true a b q = absurd (Option·none-ne-some _ (ap numbers-said q))
+          cases true false a b q =
+              got (numbers (fields r)) Layout Roads (next before) _ ns f ∙ pass (eqb (length ns) 4) Layout Roads (next before) _ a
+              ∙ stop (road-ranges (road-of ns)) Range Roads (next before) _ b ∙ ap (λ (x : Reason). refused (at-next before x)) (ap (refusal-said Layout) (sym q))
+          cases false u a b q =
+              got (numbers (fields r)) Layout Roads (next before) _ ns f ∙ stop (eqb (length ns) 4) Layout Roads (next before) _ a
+              ∙ ap (λ (x : Reason). refused (at-next before x)) (ap (refusal-said Layout) (sym q))
 
-          module _ (first : joined before (getD ns 0 0) (getD ns 1 0) ≡ false) where
-            -- one too many
-            pub road-over : 1024 ≤ length before → road before r ≡ refused (at-next before Limit)
-            unfolding next
-            road-over h = road-in-range ∙ pass _ RoadPair Roads (next before) _ (pair false first) ∙ stop _ Limit Roads (next before) _ (lt-leb (suc (length before)) 1024 (omega arith))
+  module _ (a b l m : ℕ) (e : RoadRead.Numbers a b l m ≡ road-read (numbers (fields r))) where
+    -- a record with them
+    road-given : road before r ≡ pair-tests before (quad a b l m)
+    unfolding road road-read numbers-said
+    road-given = by (numbers (fields r)) refl e
+      where
+        by : (o : Option (List ℕ)) → numbers (fields r) ≡ o → RoadRead.Numbers a b l m ≡ road-read o → road before r ≡ pair-tests before (quad a b l m)
+        by none f q = absurd (Option·some-ne-none _ (ap numbers-said q))
+        by (some ns) f q = cases (eqb (length ns) 4) (road-ranges (road-of ns)) refl refl q
+          where
+            cases : (t u : Bool) → eqb (length ns) 4 ≡ t → road-ranges (road-of ns) ≡ u
+                → RoadRead.Numbers a b l m ≡ cond t (cond u (RoadRead.Numbers (getD ns 0 0) (getD ns 1 0) (getD ns 2 0) (getD ns 3 0)) (RoadRead.Refused Range)) (RoadRead.Refused Layout)
+                → road before r ≡ pair-tests before (quad a b l m)
+            cases true true g h q =
+                got (numbers (fields r)) Layout Roads (next before) _ ns f ∙ pass (eqb (length ns) 4) Layout Roads (next before) _ g
+                ∙ pass (road-ranges (road-of ns)) Range Roads (next before) _ h ∙ ap (pair-tests before) (sym (Option·some-injective _ _ (ap numbers-said q)))
+            cases true false g h q = absurd (Option·some-ne-none _ (ap numbers-said q))
+            cases false u g h q = absurd (Option·some-ne-none _ (ap numbers-said q))
 
-            -- a road
-            pub road-taken : length before < 1024 → road before r ≡ accepted (road-of ns)
-            unfolding next
-            road-taken h = road-in-range ∙ pass _ RoadPair Roads (next before) _ (pair false first) ∙ pass _ Limit Roads (next before) _ (le-leb (suc (length before)) 1024 (omega arith))
+    -- "a road from a cell to itself"
+    pub road-self : a ≡ b → road before r ≡ refused (at-next before RoadPair)
+    road-self h = road-given ∙ stop _ RoadPair Roads (next before) _ (ap (λ (x : Bool). not x && not (joined before a b)) (eq-eqb a b h))
+
+    module _ (other : a ≡ b → ⊥) {t : Bool} (j : t ≡ joined before a b) where
+      pair : (not (eqb a b) && not (joined before a b)) ≡ not t
+      pair = ap (λ (x : Bool). not x && not (joined before a b)) (ne-eqb a b other) ∙ ap not (sym j)
+
+      -- "a second road for a pair"
+      pub road-second : t ≡ true → road before r ≡ refused (at-next before RoadPair)
+      road-second h = road-given ∙ stop _ RoadPair Roads (next before) _ (pair ∙ ap not h)
+
+      module _ (first : t ≡ false) where
+        -- one too many
+        pub road-over : 1024 ≤ length before → road before r ≡ refused (at-next before Limit)
+        unfolding next
+        road-over h = road-given ∙ pass _ RoadPair Roads (next before) _ (pair ∙ ap not first) ∙ stop _ Limit Roads (next before) _ (lt-leb (suc (length before)) 1024 (omega arith))
+
+        -- a road
+        pub road-taken : length before < 1024 → road before r ≡ accepted (quad a b l m)
+        unfolding next
+        road-taken h = road-given ∙ pass _ RoadPair Roads (next before) _ (pair ∙ ap not first) ∙ pass _ Limit Roads (next before) _ (le-leb (suc (length before)) 1024 (omega arith))
 
 -- a record that is taken is at most the 1,024th
 pub road-fits : (before : List Road) (r : List ℕ) (d : Road) → road before r ≡ accepted d → suc (length before) ≤ 1024
@@ -154,14 +210,14 @@ same-road d e a b l m =
     ∙ ap (λ (x : ℕ). record { from = e .from; to = e .to; length = e .length; margin = x }) m
 
 -- capped numbers in their ranges are the numbers
-pub ranges-exact : (ns : List ℕ) → road-ranges (road-of (map capped ns)) ≡ true → road-of (map capped ns) ≡ road-of ns
+ranges-exact : (ns : List ℕ) → road-ranges (road-of (map capped ns)) ≡ true → road-of (map capped ns) ≡ road-of ns
 ranges-exact ns h =
     let c : Road = capped-road (road-of ns) in
     let (f, g, l, m) = ranges-small c (subst T (sym (ap road-ranges (sym (road-capped ns)) ∙ h)) tt) in
     road-capped ns ∙ same-road c (road-of ns) (capped-is _ f) (capped-is _ g) (capped-is _ l) (capped-is _ m)
 
 -- capped numbers out of their ranges were so before
-pub ranges-broken : (ns : List ℕ) → road-ranges (road-of (map capped ns)) ≡ false → road-ranges (road-of ns) ≡ false
+ranges-broken : (ns : List ℕ) → road-ranges (road-of (map capped ns)) ≡ false → road-ranges (road-of ns) ≡ false
 ranges-broken ns h = fails (road-ranges (road-of ns)) broken
   where
     broken : T (road-ranges (road-of ns)) → ⊥
@@ -174,7 +230,7 @@ ranges-broken ns h = fails (road-ranges (road-of ns)) broken
 -- ---- the array
 
 -- an array that takes all numbers of a record
-pub read-whole : (fs : List (List ℕ)) (ns v : List ℕ) → numbers fs ≡ some ns → length ns ≡ length v
+read-whole : (fs : List (List ℕ)) (ns v : List ℕ) → numbers fs ≡ some ns → length ns ≡ length v
     → written (take (length v) (map capped (leading fs))) v ≡ map capped ns
 unfolding written
 read-whole fs ns v e h =
@@ -183,6 +239,39 @@ read-whole fs ns v e h =
     let front : take (length v) (map capped (leading fs)) ≡ m =
     ap (λ (x : List ℕ). take (length v) (map capped x)) (leading-all fs ns e) ∙ ap (λ (k : ℕ). take k m) (sym lm) ∙ take-length m in
     ap (λ (x : List ℕ). x ++ drop (length x) v) front ∙ ap (λ (x : List ℕ). m ++ x) (drop-of-length-le v {i = length m} (omega arith)) ∙ append-nil m
+
+-- the numbers of a road, as they are answered
+abbrev said-of : Road → RoadRead
+said-of d = RoadRead.Numbers (d .from) (d .to) (d .length) (d .margin)
+
+-- a record of k numbers, four of them in an array
+module _ (row v : List ℕ) (k most : ℕ) (e : Fields.Numbers k most ≡ fields-answer (numbers (fields row)))
+    (held : v ≡ written (take 4 (map capped (leading (fields row)))) (0 ∷ 0 ∷ 0 ∷ 0 ∷ [])) where
+  -- not four
+  pub read-other : (k ≡ 4 → ⊥) → RoadRead.Refused Layout ≡ road-read (numbers (fields row))
+  read-other h = let (ns, f, n, _) = answered-numbers _ k most e in read-count (fields row) ns f (λ q. h (n ∙ q))
+
+  module _ (four : k ≡ 4) {t : Bool} (tested : t ≡ road-ranges (road-of v)) where
+    capped-there : (ns : List ℕ) → numbers (fields row) ≡ some ns → length ns ≡ 4 → v ≡ map capped ns
+    capped-there ns f l = held ∙ read-whole (fields row) ns (0 ∷ 0 ∷ 0 ∷ 0 ∷ []) f l
+
+    -- out of their ranges
+    pub read-out : not t ≡ true → RoadRead.Refused Range ≡ road-read (numbers (fields row))
+    read-out h =
+        let (ns, f, n, _) = answered-numbers _ k most e in
+        let l : length ns ≡ 4 = sym n ∙ four in
+        let broken : road-ranges (road-of (map capped ns)) ≡ false = ap (λ (x : List ℕ). road-ranges (road-of x)) (sym (capped-there ns f l)) ∙ sym tested ∙ not-true t h in
+        read-range (fields row) ns f l (ranges-broken ns broken)
+
+    -- in their ranges
+    pub read-in : not t ≡ false → RoadRead.Numbers (getD v 0 0) (getD v 1 0) (getD v 2 0) (getD v 3 0) ≡ road-read (numbers (fields row))
+    read-in h =
+        let (ns, f, n, _) = answered-numbers _ k most e in
+        let l : length ns ≡ 4 = sym n ∙ four in
+        let there : v ≡ map capped ns = capped-there ns f l in
+        let kept : road-ranges (road-of v) ≡ true = sym tested ∙ not-false t h in
+        let same : road-of v ≡ road-of ns = ap road-of there ∙ ranges-exact ns (ap (λ (x : List ℕ). road-ranges (road-of x)) (sym there) ∙ kept) in
+        ap said-of same ∙ read-four (fields row) ns f l (ap road-ranges (sym same) ∙ kept)
 
 -- the roads whose numbers were stored are those that are there
 by-road : (ds : List Road) (z : List ℕ) → roads-in (length ds) (flatMap road-numbers ds ++ z) ≡ ds

@@ -1,7 +1,7 @@
 -- The three tables read one after the other, as the code does: what each way out gives. Assumes nothing.
 use Prim.Native.Nat.{ℕ, _≤_, _<_}
 use native.Mathlib.Omega.{arith}
-use mathlib.Core.Path.{_≡_, refl, ap, sym, _∙_}
+use mathlib.Core.Path.{_≡_, refl, ap, sym, _∙_, subst}
 use mathlib.Core.List.{List, [], _∷_, flatMap}
 use mathlib.Core.Bool.{Bool, true, false, true≢false, _&&_}
 use mathlib.Core.Logic.{_⊎_, inl, inr}
@@ -24,7 +24,7 @@ use Rattle.floor.specs.Paths.{read-paths, off-road, first-same-cell, first-exch
 use Rattle.floor.specs.Tables.{Tables, read-tables}
 use Rattle.tables.specs.Arrays.{road-numbers, cart-numbers, path-cells}
 use Rattle.tables.specs.Reading.{apart, read-apart, Arrays, room, Outcome, read-answer, zeros, numbers-of, arrays-judged, reading, read-into}
-use Rattle.floor.proofs.Judging.{refused-not-accepted, accepted-same, bind-accepted, goes-on, ends, kept-in-order}
+use Rattle.floor.proofs.Judging.{refused-not-accepted, accepted-same, bind-accepted, none-found-accepted, goes-on, ends, kept-in-order}
 use Rattle.tables.proofs.RoadRecords.{road-fits}
 
 -- "1,024 roads": no more are taken
@@ -35,6 +35,18 @@ few-roads b ds e =
     let (rs, _, e2) = bind-accepted (after-first-line (bytes "from,to,length,margin") Roads (records b)) _ ds e1 in
     kept-in-order road (λ (x : List Road). length x ≤ 1024)
     (λ before r d h one. let few = road-fits before r d one in omega (arith, few, length-append before (d ∷ []))) rs [] ds (omega arith) e2
+
+-- of all tables
+pub plan-roads : (ts : Tables) (p : Plan) → read-tables ts ≡ accepted p → length (p .roads) ≤ 1024
+unfolding read-tables
+plan-roads ts p e =
+    let (rs, er, e1) = bind-accepted (read-roads (ts .roads)) _ p e in
+    let (cs, ec, e2) = bind-accepted (read-carts (ts .carts)) _ p e1 in
+    let (ps, ep, e3) = bind-accepted (read-paths (length cs) (ts .paths)) _ p e2 in
+    let (_, e4) = none-found-accepted (off-road rs 1 ps) OffRoad _ p e3 in
+    let (_, e5) = none-found-accepted (first-same-cell ps) SameCell _ p e4 in
+    let (_, e6) = none-found-accepted (first-exchange ps) Exchange _ p e5 in
+    subst (λ (x : Plan). length (x .roads) ≤ 1024) (accepted-same (record { roads = rs; carts = cs; paths = ps }) p e6) (few-roads (ts .roads) rs er)
 
 -- the plan of what the three tables hold
 abbrev pub plan-of : List Road → List Cart → List (List ℕ) → Plan

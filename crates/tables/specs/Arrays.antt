@@ -3,8 +3,9 @@
 use Prim.Native.Nat.{ℕ, zero, suc}
 use mathlib.Core.List.{List, [], _∷_, _++_, flatMap}
 use mathlib.Core.Option.{Option, none, some, Option·getD}
-use lib.ListN.{take, drop, getD}
+use lib.ListN.{drop, getD}
 use Rattle.floor.specs.Plan.{Road, Cart}
+unfoldable pub use Rattle.collisions.specs.Meetings.{paths-in}
 
 -- a road's numbers, in its record's order
 unfoldable pub road-numbers : Road → List ℕ
@@ -28,11 +29,6 @@ roads-in (suc n) s =
 unfoldable pub carts-in : ℕ → List ℕ → List Cart
 carts-in zero s = []
 carts-in (suc n) s = record { fastest = getD s 0 0; slowest = elim (getD s 1 0) [ zero ↦ none | suc v ↦ some (suc v) ] } ∷ carts-in n (drop 2 s)
-
--- the n paths of w cells each in the front of an array
-unfoldable pub paths-in : ℕ → ℕ → List ℕ → List (List ℕ)
-paths-in zero w s = []
-paths-in (suc n) w s = take w s ∷ paths-in n w (drop w s)
 
 -- Names every definition of this module, for a proof that computes with them all.
 unfoldable pub open-arrays : Unit {0}

@@ -9,16 +9,18 @@ use lib.ListN.{length, getD, replicate}
 use lib.Seq.{sets}
 use Rattle.words.specs.Words.{padded}
 use Rattle.csv.specs.Number.{number}
-use Rattle.floor.specs.declared.Reason.the-variants.{OffRoad, SameCell, Exchange}
+use Rattle.floor.specs.declared.Reason.the-variants.{Layout, Range, OffRoad, SameCell, Exchange}
 use Rattle.tables.specs.declared.Reading.{Reading}
 use Rattle.tables.specs.declared.Taken.{Taken}
 use Rattle.tables.specs.declared.Count.{Count}
 use Rattle.tables.specs.declared.Speeds.{Speeds}
+use Rattle.tables.specs.declared.RoadRead.{RoadRead}
 use Rattle.tables.specs.declared.PathTaken.{PathTaken}
 use Rattle.tables.specs.declared.PathsRead.{PathsRead}
 use Rattle.floor.specs.Refusal.{Judged, refused, accepted, _>>=_, _>>_, unless-found}
 use Rattle.floor.specs.Plan.{Road, Plan}
 use Rattle.floor.specs.Carts.{number-or-empty}
+use Rattle.floor.specs.Roads.{road-ranges}
 use Rattle.floor.specs.Paths.{read-paths, steps, off-road, first-same-cell, first-exchange}
 use Rattle.floor.specs.Tables.{Tables, read-tables}
 use Rattle.tables.specs.Arrays.{road-numbers, cart-numbers, path-cells}
@@ -49,6 +51,16 @@ speeds (some f) (some (some s)) = Speeds.Both f s
 unfoldable pub speeds-of : List (List ℕ) → Speeds
 speeds-of fs = cond (eqb (length fs) 2) (speeds (number (getD fs 0 [])) (number-or-empty (getD fs 1 []))) Speeds.Malformed
 
+-- the four numbers of a road in their ranges, or why there are none
+unfoldable pub road-read : Option (List ℕ) → RoadRead
+road-read none = RoadRead.Refused Layout
+road-read (some ns) =
+    cond (eqb (length ns) 4)
+    (cond (road-ranges (record { from = getD ns 0 0; to = getD ns 1 0; length = getD ns 2 0; margin = getD ns 3 0 }))
+    (RoadRead.Numbers (getD ns 0 0) (getD ns 1 0) (getD ns 2 0) (getD ns 3 0))
+    (RoadRead.Refused Range))
+    (RoadRead.Refused Layout)
+
 -- what is said of a path: how many cells it has, or why it is not taken
 unfoldable pub path-taken : Judged (List ℕ) → PathTaken
 path-taken (refused r) = PathTaken.Refused (r .reason)
@@ -70,11 +82,6 @@ apart rs ps = do
 -- the table of paths, and then these
 unfoldable pub read-apart : List Road → ℕ → List ℕ → Judged (List (List ℕ))
 read-apart rs carts b = read-paths carts b >>= apart rs
-
--- a record that was found, 0 where none was
-unfoldable pub found : Option ℕ → ℕ
-found none = 0
-found (some i) = i
 
 -- the arrays of a reader: four places a road, two a cart, one a path cell
 pub record Arrays : Type 0 where
@@ -134,5 +141,5 @@ read-into roads carts paths edges speeds cells =
 
 -- Names every definition of this module, for a proof that computes with them all.
 unfoldable pub open-reading : Unit {0}
-unfolding taken stored counted speeds speeds-of path-taken paths-read apart read-apart found room read-answer zeros numbers-of arrays-judged reading read-into
+unfolding taken stored counted speeds speeds-of road-read path-taken paths-read apart read-apart room read-answer zeros numbers-of arrays-judged reading read-into
 open-reading = tt

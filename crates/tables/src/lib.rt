@@ -1,9 +1,10 @@
 // The three tables read and judged into arrays. The definitions of the tables are those of floor; those of the arrays are in specs/.
 mod carts;
-mod collisions;
+mod on_roads;
 mod paths;
 mod roads;
 
+use collisions::Meeting;
 use floor::Reason;
 use floor::Refusal;
 use floor::Table;
@@ -49,6 +50,12 @@ enum Speeds {
     Malformed,
 }
 
+// A road's numbers, in their ranges, or why there are none.
+enum RoadRead {
+    Numbers(u32, u32, u32, u32),
+    Refused(Reason),
+}
+
 // What is said of one path: it is taken, with how many cells, or why not.
 enum PathTaken {
     Kept(usize),
@@ -73,7 +80,7 @@ fn clear(s: &mut [u32])
 }
 
 // Zeros in every place of three arrays.
-fn clear_all(edges: &mut [u32], speeds: &mut [u32], cells: &mut [u32])
+pub fn clear_all(edges: &mut [u32], speeds: &mut [u32], cells: &mut [u32])
     ensures edges { λ _. ⌜ now (edges .exit) ≡ replicate (length (now (edges .entry))) 0 ⌝ }
     ensures speeds { λ _. ⌜ now (speeds .exit) ≡ replicate (length (now (speeds .entry))) 0 ⌝ }
     ensures cells { λ _. ⌜ now (cells .exit) ≡ replicate (length (now (cells .entry))) 0 ⌝ }
@@ -97,7 +104,7 @@ fn judge_paths(
     requires { ⌜ (n ≤ 1024) × (length (now heads) ≡ 1024) × (length (now nexts) ≡ 1024) × Indexed n (now edges) (now heads) (now nexts) ⌝ }
     ensures { λ r. ⌜ r ≡ paths-read (apart (roads-in n (now (edges .entry))) (paths-in carts w (now (cells .entry)))) ⌝ }
 {
-    let off = collisions::off_roads(edges, heads, nexts, n, cells, carts, w);
+    let off = on_roads::off_roads(edges, heads, nexts, n, cells, carts, w);
     if off != 0 {
         return PathsRead::Refused(Refusal {
             reason: Reason::OffRoad,
@@ -105,23 +112,20 @@ fn judge_paths(
             row: off,
         });
     }
-    let same = collisions::same_cells(cells, carts, w);
-    if same != 0 {
-        return PathsRead::Refused(Refusal {
+    let x = collisions::first_meeting(cells, carts, w);
+    match x {
+        Meeting::SameCell(i) => PathsRead::Refused(Refusal {
             reason: Reason::SameCell,
             table: Table::Paths,
-            row: same,
-        });
-    }
-    let swap = collisions::exchanges(cells, carts, w);
-    if swap != 0 {
-        return PathsRead::Refused(Refusal {
+            row: i,
+        }),
+        Meeting::Exchange(i) => PathsRead::Refused(Refusal {
             reason: Reason::Exchange,
             table: Table::Paths,
-            row: swap,
-        });
+            row: i,
+        }),
+        Meeting::Apart => PathsRead::Read(carts, w),
     }
-    PathsRead::Read(carts, w)
 }
 
 // The table of paths read and held against the n roads and against each other.

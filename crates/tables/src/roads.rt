@@ -1,5 +1,6 @@
 // The table of roads.
 use crate::Count;
+use crate::RoadRead;
 use crate::Taken;
 use csv::Fields;
 use floor::Reason;
@@ -11,13 +12,14 @@ ghost use Prim.Native.Nat.{ℕ, _+_, _*_, _≤_, _<_};
 ghost use lib.ListN.{length, drop, replicate};
 ghost use lib.Seq.{sets};
 ghost use Rattle.words.specs.Words.{padded};
-ghost use Rattle.csv.specs.Records.{records};
+ghost use Rattle.csv.specs.Records.{records, fields};
+ghost use Rattle.csv.specs.Number.{numbers};
 ghost use Rattle.floor.specs.Refusal.{accepted, records-in-order};
 ghost use Rattle.floor.specs.Plan.{Road, joined};
 ghost use Rattle.floor.specs.Roads.{road-ranges, road, read-roads};
 ghost use Rattle.tables.specs.Arrays.{road-numbers, roads-in};
 ghost use Rattle.tables.specs.Index.{bucket, Indexed};
-ghost use Rattle.tables.specs.Reading.{taken, counted, stored};
+ghost use Rattle.tables.specs.Reading.{taken, counted, stored, road-read};
 
 // The remainder that a road between two cells is linked by.
 fn bucket_of(a: u32, b: u32) -> usize
@@ -106,6 +108,28 @@ fn in_ranges(from: u32, to: u32, len: u32, margin: u32) -> bool
     2 * (margin as u64) < len as u64
 }
 
+// The numbers of a record, where there are four and they are in their ranges.
+fn read_road(row: &[u8]) -> RoadRead
+    ensures { λ r. ⌜ r ≡ road-read (numbers (fields (now (row .entry)))) ⌝ }
+{
+    let mut v = [0u32; 4];
+    let x = csv::read_numbers(row, &mut v);
+    let Fields::Numbers(k, _) = x else {
+        return RoadRead::Refused(Reason::Layout);
+    };
+    if k != 4 {
+        return RoadRead::Refused(Reason::Layout);
+    }
+    let from = v[0];
+    let to = v[1];
+    let len = v[2];
+    let margin = v[3];
+    if !in_ranges(from, to, len, margin) {
+        return RoadRead::Refused(Reason::Range);
+    }
+    RoadRead::Numbers(from, to, len, margin)
+}
+
 // One record, after n roads: where it is taken, its numbers follow theirs, and it is linked.
 fn take_road(row: &[u8], n: usize, roads: &mut [u32], heads: &mut [u16], nexts: &mut [u16]) -> Taken
     requires { ⌜ (n ≤ 1024) × (4096 ≤ length (now roads)) ⌝ }
@@ -114,32 +138,23 @@ fn take_road(row: &[u8], n: usize, roads: &mut [u32], heads: &mut [u16], nexts: 
     ensures left { λ _. ⌜ now (roads .exit) ≡ stored road-numbers (4 * n) (road (roads-in n (now (roads .entry))) (now (row .entry))) (now (roads .entry)) ⌝ }
     ensures index { λ _. ⌜ ((d : Road) → road (roads-in n (now (roads .entry))) (now (row .entry)) ≡ accepted d → Indexed (n + 1) (now (roads .exit)) (now (heads .exit)) (now (nexts .exit))) ⌝ }
 {
-    let mut v = [0u32; 4];
-    let x = csv::read_numbers(row, &mut v);
-    let Fields::Numbers(k, _) = x else {
-        return Taken::Refused(Reason::Layout);
-    };
-    if k != 4 {
-        return Taken::Refused(Reason::Layout);
+    let x = read_road(row);
+    match x {
+        RoadRead::Refused(why) => Taken::Refused(why),
+        RoadRead::Numbers(from, to, len, margin) => {
+            if from == to {
+                return Taken::Refused(Reason::RoadPair);
+            }
+            if is_joined(roads, heads, nexts, n, from, to) {
+                return Taken::Refused(Reason::RoadPair);
+            }
+            if 1024 <= n {
+                return Taken::Refused(Reason::Limit);
+            }
+            put_road(from, to, len, margin, n, roads, heads, nexts);
+            Taken::Kept
+        }
     }
-    let from = v[0];
-    let to = v[1];
-    let len = v[2];
-    let margin = v[3];
-    if !in_ranges(from, to, len, margin) {
-        return Taken::Refused(Reason::Range);
-    }
-    if from == to {
-        return Taken::Refused(Reason::RoadPair);
-    }
-    if is_joined(roads, heads, nexts, n, from, to) {
-        return Taken::Refused(Reason::RoadPair);
-    }
-    if 1024 <= n {
-        return Taken::Refused(Reason::Limit);
-    }
-    put_road(from, to, len, margin, n, roads, heads, nexts);
-    Taken::Kept
 }
 
 // The records from `start` on, one after the other.

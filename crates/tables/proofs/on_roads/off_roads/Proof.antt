@@ -1,4 +1,4 @@
--- `tables::collisions::off_roads` meets its contract. The loop's invariant: the paths passed over keep to the roads.
+-- `tables::on_roads::off_roads` meets its contract. The loop's invariant: the paths passed over keep to the roads.
 -- Assumes nothing.
 use Prim.Native.Nat.{_+_, _*_, _-_, _≤_}
 use native.Mathlib.Nat.{add-mul}
@@ -8,10 +8,10 @@ use mathlib.Core.Path.{_≡_, ap, sym, _∙_}
 use lib.ListN.{drop}
 use Rattle.floor.specs.Paths.{off-road}
 use Rattle.tables.specs.Arrays.{roads-in, paths-in}
-use Rattle.tables.specs.Reading.{found}
+use Rattle.collisions.specs.Meetings.{found}
 use Rattle.tables.proofs.Searches.{path-fits, path-on, path-off, paths-past}
-use Rattle.tables.proofs.collisions.off_roads.Statement.{statement}
-use Rattle.tables.proofs.collisions.off_roads.Tie as tie
+use Rattle.tables.proofs.on_roads.off_roads.Statement.{statement}
+use Rattle.tables.proofs.on_roads.off_roads.Tie as tie
 
 abbrev Inv-loop : tie.InvT-loop
 Inv-loop roads heads nexts n cells carts w i₀ at₀ i at =

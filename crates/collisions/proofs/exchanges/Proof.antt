@@ -1,4 +1,4 @@
--- `tables::collisions::exchanges` meets its contract. The loops' invariants are those of `same_cells`, for the moves to a step.
+-- `collisions::exchanges` meets its contract. The loops' invariants are those of `same_cells`, for the moves to a step.
 -- Assumes nothing.
 use Prim.Native.Nat.{ℕ, _+_, _*_, _-_, _≤_, _<_}
 use native.Mathlib.Numerals.{unary-clauses}
@@ -8,11 +8,10 @@ use mathlib.Core.Logic.{⊎-elim}
 use mathlib.Core.List.{List}
 use lib.ListN.{take, drop, getD}
 use Rattle.floor.specs.Paths.{collides, first-collision, earliest, Move, exchanged, exchange, steps, first-exchange}
-use Rattle.tables.specs.Arrays.{paths-in}
-use Rattle.tables.specs.Reading.{found}
-use Rattle.tables.proofs.Searches.{path-fits, moves-at, moves-placed, moves-meet, moves-pass, stays-alone, other-passed, record-passed, record-found, records-past, step-to-passed, step-found, steps-over, steps-most, steps-all}
-use Rattle.tables.proofs.collisions.exchanges.Statement.{statement}
-use Rattle.tables.proofs.collisions.exchanges.Tie as tie
+use Rattle.collisions.specs.Meetings.{paths-in, found}
+use Rattle.collisions.proofs.Searches.{path-fits, moves-at, moves-placed, moves-meet, moves-pass, stays-alone, other-passed, record-passed, record-found, records-past, step-to-passed, step-found, steps-over, steps-most, steps-all}
+use Rattle.collisions.proofs.exchanges.Statement.{statement}
+use Rattle.collisions.proofs.exchanges.Tie as tie
 
 abbrev Inv-loop2 : tie.InvT-loop2
 Inv-loop2 cells carts w found₀ s i a b k₀ found k = (found ≡ 0)

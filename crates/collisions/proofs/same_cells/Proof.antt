@@ -1,4 +1,4 @@
--- `tables::collisions::same_cells` meets its contract. The loops' invariants: nothing was found at the steps passed, nor at this step among the carts
+-- `collisions::same_cells` meets its contract. The loops' invariants: nothing was found at the steps passed, nor at this step among the carts
 -- passed, nor for this cart against those passed. Assumes nothing.
 use Prim.Native.Nat.{_+_, _*_, _-_, _≤_, _<_}
 use native.Mathlib.Numerals.{unary-clauses}
@@ -8,11 +8,10 @@ use borrow.Author.Tests.{eq-eqb, ne-eqb}
 use lib.Dec.{eqb}
 use lib.ListN.{take, drop}
 use Rattle.floor.specs.Paths.{collides, first-collision, earliest, same-cell, steps, first-same-cell}
-use Rattle.tables.specs.Arrays.{paths-in}
-use Rattle.tables.specs.Reading.{found}
-use Rattle.tables.proofs.Searches.{path-fits, cells-at, cells-placed, other-passed, record-passed, record-found, records-past, step-passed, step-found, steps-over, steps-most, steps-all}
-use Rattle.tables.proofs.collisions.same_cells.Statement.{statement}
-use Rattle.tables.proofs.collisions.same_cells.Tie as tie
+use Rattle.collisions.specs.Meetings.{paths-in, found}
+use Rattle.collisions.proofs.Searches.{path-fits, cells-at, cells-placed, other-passed, record-passed, record-found, records-past, step-passed, step-found, steps-over, steps-most, steps-all}
+use Rattle.collisions.proofs.same_cells.Statement.{statement}
+use Rattle.collisions.proofs.same_cells.Tie as tie
 
 abbrev Inv-loop2 : tie.InvT-loop2
 Inv-loop2 cells carts w found₀ s i c k₀ found k = (found ≡ 0)

@@ -1,4 +1,4 @@
--- `tables::collisions::keeps_to_roads` meets its contract. The loop's invariant: the path keeps to the roads if it does from the last step passed on.
+-- `tables::on_roads::keeps_to_roads` meets its contract. The loop's invariant: the path keeps to the roads if it does from the last step passed on.
 -- Assumes nothing.
 use Prim.Native.Nat.{_-_, _≤_}
 use native.Mathlib.Omega.{arith}
@@ -8,8 +8,8 @@ use lib.ListN.{take, drop}
 use Rattle.floor.specs.Paths.{on-roads}
 use Rattle.tables.specs.Arrays.{roads-in}
 use Rattle.tables.proofs.Searches.{path-from, step-stays, step-on, step-off, steps-past}
-use Rattle.tables.proofs.collisions.keeps_to_roads.Statement.{statement}
-use Rattle.tables.proofs.collisions.keeps_to_roads.Tie as tie
+use Rattle.tables.proofs.on_roads.keeps_to_roads.Statement.{statement}
+use Rattle.tables.proofs.on_roads.keeps_to_roads.Tie as tie
 
 abbrev Inv-loop : tie.InvT-loop
 Inv-loop roads heads nexts n cells at w s₀ s =
