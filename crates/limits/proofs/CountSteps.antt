@@ -8,12 +8,15 @@ use mathlib.Core.Logic.{_≢_}
 use mathlib.Core.Bool.{Bool, true, false, cond}
 use mathlib.Core.List.{List, [], _∷_, _++_, map, append-assoc}
 use lib.Dec.{eqb}
-use lib.ListN.{length, take, drop, getD, set, length-take}
+use lib.ListN.{length, take, drop, getD, set, length-take, length-append}
 use lib.Seq.{drop-cons, drop-drop, getD-set-same, getD-set-other}
 use borrow.Author.Tests.{eq-eqb, ne-eqb}
 use Rattle.tables.specs.Arrays.{paths-in}
 use Rattle.network.specs.Events.{Visit, visits-after, visits-of}
-use Rattle.limits.specs.Counts.{total, moves-after, moves, Stop, stop, stops, counts, later-carts, not-last, orders-from, stop-at, stops-in}
+use Rattle.network.specs.Bounds.{Bound, no-earlier}
+use Rattle.limits.specs.Counts.{total, moves-after, moves, Stop, stop, stops, counts, later-carts, orders-from, orders-among, stop-at, stops-in}
+use Rattle.limits.specs.Row.{Entry, later-bounds, followed, row-from, row-bounds, entry-at, placed, entry-in, row-in}
+use Rattle.limits.proofs.RowBounds.{later-count, row-count, placed-visits}
 
 -- ---- a path in an array
 
@@ -23,7 +26,7 @@ steps-from s at w t = take (w - t) (drop (at + t) s)
 
 module _ (s : List ℕ) (at w : ℕ) (fits : at + w ≤ length s) where
   -- the cell at step t is the first of them
-  steps-cons : (t : ℕ) → t < w → steps-from s at w t ≡ getD s (at + t) 0 ∷ steps-from s at w (t + 1)
+  pub steps-cons : (t : ℕ) → t < w → steps-from s at w t ≡ getD s (at + t) 0 ∷ steps-from s at w (t + 1)
   steps-cons t l =
       let one : w - t ≡ suc (w - (t + 1)) = omega arith in
       let next : suc (at + t) ≡ at + (t + 1) = omega arith in
@@ -32,7 +35,7 @@ module _ (s : List ℕ) (at w : ℕ) (fits : at + w ≤ length s) where
       ∙ ap (λ (n : ℕ). getD s (at + t) 0 ∷ take (w - (t + 1)) (drop n s)) next
 
   -- after the last there are none
-  steps-none : (t : ℕ) → w ≤ t → steps-from s at w t ≡ []
+  pub steps-none : (t : ℕ) → w ≤ t → steps-from s at w t ≡ []
   steps-none t l = let none : w - t ≡ 0 = omega arith in ap (λ (n : ℕ). take n (drop (at + t) s)) none
 
   -- the path whole
@@ -236,23 +239,30 @@ module _ (ns ts cs : List ℕ) where
       ap (λ (m : ℕ). stops-in ns ts cs m i) one
       ∙ ap (λ (j : ℕ). stop-at ns ts cs i ∷ stops-in ns ts cs (n - (i + 1)) j) (sym (add-one i))
 
+  -- with its entry event
+  row-cons : (n i : ℕ) → i < n → row-in ns ts cs (n - i) i ≡ entry-in ns ts cs i ∷ row-in ns ts cs (n - (i + 1)) (i + 1)
+  unfolding row-in placed entry-in
+  row-cons n i l =
+      ap (placed i) (stops-cons n i l) ∙ ap (λ (j : ℕ). entry-in ns ts cs i ∷ placed j (stops-in ns ts cs (n - (i + 1)) (i + 1))) (sym (add-one i))
+
   -- the visit at hand is counted
-  pub later-yes : (v : Stop) (k n i : ℕ) → i < n → counts v k (stop-at ns ts cs i) ≡ true
-      → later-carts v k (stops-in ns ts cs (n - i) i) ≡ suc (later-carts v (getD ns i 0) (stops-in ns ts cs (n - (i + 1)) (i + 1)))
-  unfolding later-carts stop-at
+  pub later-yes : (v : Entry) (k n i : ℕ) → i < n → counts (v .visit) k (stop-at ns ts cs i) ≡ true
+      → later-bounds v k (row-in ns ts cs (n - i) i)
+      ≡ no-earlier (v .event + 1) (3 * i + 3 - 2 * getD ns i 0 - 1) ∷ later-bounds v (getD ns i 0) (row-in ns ts cs (n - (i + 1)) (i + 1))
+  unfolding later-bounds stop-at entry-in entry-at
   later-yes v k n i l e =
-      let rest : List Stop = stops-in ns ts cs (n - (i + 1)) (i + 1) in
-      ap (later-carts v k) (stops-cons n i l)
-      ∙ ap (λ (b : Bool). cond b (suc (later-carts v (getD ns i 0) rest)) (later-carts v k rest)) e
+      let rest : List Entry = row-in ns ts cs (n - (i + 1)) (i + 1) in
+      ap (later-bounds v k) (row-cons n i l)
+      ∙ ap (λ (b : Bool). cond b (no-earlier (v .event + 1) (3 * i + 3 - 2 * getD ns i 0 - 1) ∷ later-bounds v (getD ns i 0) rest) (later-bounds v k rest)) e
 
   -- it is not
-  pub later-no : (v : Stop) (k n i : ℕ) → i < n → counts v k (stop-at ns ts cs i) ≡ false
-      → later-carts v k (stops-in ns ts cs (n - i) i) ≡ later-carts v k (stops-in ns ts cs (n - (i + 1)) (i + 1))
-  unfolding later-carts stop-at
+  pub later-no : (v : Entry) (k n i : ℕ) → i < n → counts (v .visit) k (stop-at ns ts cs i) ≡ false
+      → later-bounds v k (row-in ns ts cs (n - i) i) ≡ later-bounds v k (row-in ns ts cs (n - (i + 1)) (i + 1))
+  unfolding later-bounds stop-at entry-in entry-at
   later-no v k n i l e =
-      let rest : List Stop = stops-in ns ts cs (n - (i + 1)) (i + 1) in
-      ap (later-carts v k) (stops-cons n i l)
-      ∙ ap (λ (b : Bool). cond b (suc (later-carts v (getD ns i 0) rest)) (later-carts v k rest)) e
+      let rest : List Entry = row-in ns ts cs (n - (i + 1)) (i + 1) in
+      ap (later-bounds v k) (row-cons n i l)
+      ∙ ap (λ (b : Bool). cond b (no-earlier (v .event + 1) (3 * i + 3 - 2 * getD ns i 0 - 1) ∷ later-bounds v (getD ns i 0) rest) (later-bounds v k rest)) e
 
   -- no more than there are
   pub later-most : (v : Stop) (k n i : ℕ) → later-carts v k (stops-in ns ts cs n i) ≤ n
@@ -265,33 +275,50 @@ module _ (ns ts cs : List ℕ) where
       by true h g = omega arith
       by false h g = omega arith
 
+  -- as many bounds as are counted
+  pub laters-count : (v : Entry) (k n i : ℕ) → length (later-bounds v k (row-in ns ts cs n i)) ≡ later-carts (v .visit) k (stops-in ns ts cs n i)
+  unfolding row-in
+  laters-count v k n i = later-count v k (placed i (stops-in ns ts cs n i)) ∙ ap (later-carts (v .visit) k) (placed-visits i (stops-in ns ts cs n i))
+
+  -- of all visits
+  pub row-counted : (n : ℕ) → length (row-bounds (row-in ns ts cs n 0)) ≡ orders-among (stops-in ns ts cs n 0)
+  unfolding row-in row-bounds orders-among
+  row-counted n =
+      let row : List Entry = placed 0 (stops-in ns ts cs n 0) in
+      row-count row row ∙ ap (λ (us : List Stop). orders-from us us) (placed-visits 0 (stops-in ns ts cs n 0))
+
   -- order bounds: a visit with one of the same cart behind it
-  pub orders-more : (all : List Stop) (n i : ℕ) → i + 1 < n → getD ns i 0 ≡ getD ns (i + 1) 0
-      → orders-from all (stops-in ns ts cs (n - i) i) ≡ later-carts (stop-at ns ts cs i) 0 all + orders-from all (stops-in ns ts cs (n - (i + 1)) (i + 1))
-  unfolding orders-from not-last stop-at
-  orders-more all n i l e =
-      let rest : List Stop = stops-in ns ts cs (n - (i + 1)) (i + 1) in
-      ap (orders-from all) (stops-cons n i (omega arith))
-      ∙ ap (λ (b : Bool). cond b (later-carts (stop-at ns ts cs i) 0 all) 0 + orders-from all rest)
-      (ap (not-last (stop-at ns ts cs i)) (stops-cons n (i + 1) l) ∙ eq-eqb (getD ns i 0) (getD ns (i + 1) 0) e)
+  pub row-more : (all : List Entry) (n i : ℕ) → i + 1 < n → getD ns i 0 ≡ getD ns (i + 1) 0
+      → row-from all (row-in ns ts cs (n - i) i) ≡ later-bounds (entry-in ns ts cs i) 0 all ++ row-from all (row-in ns ts cs (n - (i + 1)) (i + 1))
+  unfolding row-from followed stop-at entry-in
+  row-more all n i l e =
+      let rest : List Entry = row-in ns ts cs (n - (i + 1)) (i + 1) in
+      ap (row-from all) (row-cons n i (omega arith))
+      ∙ ap (λ (b : Bool). cond b (later-bounds (entry-in ns ts cs i) 0 all) [] ++ row-from all rest)
+      (ap (followed (entry-in ns ts cs i)) (row-cons n (i + 1) l) ∙ eq-eqb (getD ns i 0) (getD ns (i + 1) 0) e)
 
   -- one with a visit of another cart behind it
-  pub orders-same : (all : List Stop) (n i : ℕ) → i + 1 < n → (getD ns i 0 ≡ getD ns (i + 1) 0 → ⊥)
-      → orders-from all (stops-in ns ts cs (n - i) i) ≡ orders-from all (stops-in ns ts cs (n - (i + 1)) (i + 1))
-  unfolding orders-from not-last stop-at
-  orders-same all n i l e =
-      let rest : List Stop = stops-in ns ts cs (n - (i + 1)) (i + 1) in
-      ap (orders-from all) (stops-cons n i (omega arith))
-      ∙ ap (λ (b : Bool). cond b (later-carts (stop-at ns ts cs i) 0 all) 0 + orders-from all rest)
-      (ap (not-last (stop-at ns ts cs i)) (stops-cons n (i + 1) l) ∙ ne-eqb (getD ns i 0) (getD ns (i + 1) 0) e)
-      ∙ omega arith
+  pub row-same : (all : List Entry) (n i : ℕ) → i + 1 < n → (getD ns i 0 ≡ getD ns (i + 1) 0 → ⊥)
+      → row-from all (row-in ns ts cs (n - i) i) ≡ row-from all (row-in ns ts cs (n - (i + 1)) (i + 1))
+  unfolding row-from followed stop-at entry-in
+  row-same all n i l e =
+      let rest : List Entry = row-in ns ts cs (n - (i + 1)) (i + 1) in
+      ap (row-from all) (row-cons n i (omega arith))
+      ∙ ap (λ (b : Bool). cond b (later-bounds (entry-in ns ts cs i) 0 all) [] ++ row-from all rest)
+      (ap (followed (entry-in ns ts cs i)) (row-cons n (i + 1) l) ∙ ne-eqb (getD ns i 0) (getD ns (i + 1) 0) e)
 
   -- the last visit of all has none
-  pub orders-none : (all : List Stop) (n i : ℕ) → n ≤ i + 1 → orders-from all (stops-in ns ts cs (n - i) i) ≡ 0
-  unfolding orders-from not-last stops-in
-  orders-none all n i l = by (n - i) (omega arith)
+  pub row-none : (all : List Entry) (n i : ℕ) → n ≤ i + 1 → row-from all (row-in ns ts cs (n - i) i) ≡ []
+  unfolding row-from followed row-in placed stops-in
+  row-none all n i l = by (n - i) (omega arith)
     where
-      by : (m : ℕ) → m ≤ 1 → orders-from all (stops-in ns ts cs m i) ≡ 0
+      by : (m : ℕ) → m ≤ 1 → row-from all (row-in ns ts cs m i) ≡ []
       by zero h = refl
       by (suc zero) h = refl
       by (suc (suc m)) h = absurd (omega arith)
+
+  -- counted: a visit with one of the same cart behind it
+  pub counted-more : (all : List Entry) (n i : ℕ) → i + 1 < n → getD ns i 0 ≡ getD ns (i + 1) 0
+      → length (row-from all (row-in ns ts cs (n - i) i)) ≡ length (later-bounds (entry-in ns ts cs i) 0 all) + length (row-from all (row-in ns ts cs (n - (i + 1)) (i + 1)))
+  counted-more all n i l e =
+      ap (λ (bs : List Bound). length bs) (row-more all n i l e) ∙ length-append (later-bounds (entry-in ns ts cs i) 0 all) (row-from all (row-in ns ts cs (n - (i + 1)) (i + 1)))

@@ -1,5 +1,9 @@
+pub mod RowBounds
 pub mod Counts
 pub mod CountSteps
 pub mod Links
 pub mod LimitSteps
 pub mod Kept
+pub mod Firsts
+pub mod OrderSteps
+pub mod RowPlaces

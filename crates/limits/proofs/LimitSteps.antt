@@ -3,9 +3,10 @@ use Prim.Native.Nat.{ℕ, zero, suc, _+_, _*_, _-_, _≤_, _<_}
 use native.Mathlib.Nat.{mul-zero, suc-mul}
 use native.Mathlib.Omega.{arith}
 use mathlib.Core.Path.{_≡_, refl, ap, sym, _∙_, subst}
-use mathlib.Core.Bool.{Bool, true, false, _&&_}
+use mathlib.Core.Bool.{Bool, true, false, not, _&&_}
 use mathlib.Core.List.{List, [], _∷_}
-use lib.Dec.{leb}
+use lib.Dec.{T, leb, leb→le}
+use mir.Facts.{and-yes}
 use lib.ListN.{length, take, drop, length-drop}
 use lib.Seq.{length-take-le}
 use borrow.Author.Tests.{le-leb, lt-leb}
@@ -19,12 +20,12 @@ use Rattle.limits.proofs.Counts.{path-points, point-count, limits-are}
 -- ---- paths in an array
 
 -- a path with a cell has three points for each move, and one
-path-events : (q : List ℕ) → 1 ≤ length q → path-points q ≡ suc (3 * moves q)
+pub path-events : (q : List ℕ) → 1 ≤ length q → path-points q ≡ suc (3 * moves q)
 path-events [] h = absurd (omega arith)
 path-events (c ∷ cs) h = point-count c cs
 
 -- of all paths
-all-events : (n w : ℕ) (s : List ℕ) → 1 ≤ w → n * w ≤ length s → total path-points (paths-in n w s) ≡ n + 3 * total moves (paths-in n w s)
+pub all-events : (n w : ℕ) (s : List ℕ) → 1 ≤ w → n * w ≤ length s → total path-points (paths-in n w s) ≡ n + 3 * total moves (paths-in n w s)
 unfolding paths-in total
 all-events zero w s l h = refl
 all-events (suc n) w s l h =
@@ -58,21 +59,29 @@ empty-orders n s = ap orders-among (empty-stops n 1 s)
 
 -- ---- the tests
 
+-- a test that fails
+pub failed : (b : Bool) → not b ≡ true → b ≡ false
+failed true e = sym e
+failed false e = refl
+
+-- one that does not
+pub passed : (b : Bool) → not b ≡ false → b ≡ true
+passed true e = refl
+passed false e = sym e
+
+-- few enough carts and steps, and all cells there
+pub there-says : (n w : ℕ) (s : List ℕ) (b : Bool) → b ≡ (leb n 64 && leb w 1024 && leb (n * w) (length s)) → not b ≡ false
+    → (n ≤ 64) × (w ≤ 1024) × (n * w ≤ length s)
+there-says n w s b q e =
+    let (more, cells) = and-yes (leb n 64 && leb w 1024) (leb (n * w) (length s)) (subst T (sym (passed b e) ∙ q) tt) in
+    let (carts, steps) = and-yes (leb n 64) (leb w 1024) more in
+    (leb→le n 64 carts, leb→le w 1024 steps, leb→le (n * w) (length s) cells)
+
 module _ (n w : ℕ) (s : List ℕ) where
-  -- too many carts
-  pub many-carts : 64 < n → false ≡ paths-within n w s
+  -- too many carts or steps, or not all cells there
+  pub not-there : (b : Bool) → b ≡ (leb n 64 && leb w 1024 && leb (n * w) (length s)) → not b ≡ true → false ≡ paths-within n w s
   unfolding paths-within
-  many-carts h = ap (λ (b : Bool). b && leb w 1024 && leb (n * w) (length s) && limits-kept (of-paths (paths-in n w s))) (sym (lt-leb n 64 h))
-
-  -- too many steps
-  pub many-steps : n ≤ 64 → 1024 < w → false ≡ paths-within n w s
-  unfolding paths-within
-  many-steps h k = simp (le-leb n 64 h, lt-leb w 1024 k)
-
-  -- not all of them there
-  pub few-cells : n ≤ 64 → w ≤ 1024 → length s < n * w → false ≡ paths-within n w s
-  unfolding paths-within
-  few-cells h k l = simp (le-leb n 64 h, le-leb w 1024 k, lt-leb (n * w) (length s) l)
+  not-there b q e = ap (λ (t : Bool). t && limits-kept (of-paths (paths-in n w s))) (sym (failed b e) ∙ q)
 
   -- else the limits of events and bounds are asked
   all-there : n ≤ 64 → w ≤ 1024 → n * w ≤ length s → limits-kept (of-paths (paths-in n w s)) ≡ paths-within n w s

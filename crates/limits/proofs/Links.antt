@@ -1,6 +1,6 @@
 -- Visits linked by their cells' remainders: a visit to v's cell is among those of its remainder, so that no other need be looked at.
 -- Assumes nothing.
-use Prim.Native.Nat.{ℕ, zero, suc, _+_, _-_, _%_, _≤_, _<_}
+use Prim.Native.Nat.{ℕ, zero, suc, _+_, _*_, _-_, _%_, _≤_, _<_}
 use native.Mathlib.Nat.{eq-or-lt-of-le}
 use native.Mathlib.Numerals.{add-one}
 use native.Mathlib.Omega.{arith}
@@ -12,7 +12,9 @@ use lib.Dec.{ltb, eqb}
 use lib.ListN.{length, getD, set}
 use lib.Seq.{getD-set-same, getD-set-other}
 use borrow.Author.Tests.{eqb-true, eqb-false, ne-eqb}
-use Rattle.limits.specs.Counts.{Stop, counts, later-carts, stop-at, stops-in, left-in, Linked}
+use Rattle.network.specs.Bounds.{Bound, no-earlier}
+use Rattle.limits.specs.Counts.{Stop, counts, stop-at, stops-in, left-in, Linked}
+use Rattle.limits.specs.Row.{Entry, later-bounds, entry-at, placed, entry-in, row-in}
 use Rattle.limits.proofs.CountSteps.{later-yes, later-no}
 
 -- ---- where the next of a remainder is
@@ -54,27 +56,27 @@ other-cell v u k h =
     by false b = refl
 
 -- those before the next of v's remainder are passed over
-pub left-skip : (numbers times cells : List ℕ) (v : Stop) (k b n l i : ℕ) → v .cell % 1024 ≡ b → i + l ≡ n
-    → later-carts v k (stops-in numbers times cells l i) ≡ later-carts v k (stops-in numbers times cells (left-in cells b l i) (n - left-in cells b l i))
-unfolding left-in later-carts stops-in stop-at
+pub left-skip : (numbers times cells : List ℕ) (v : Entry) (k b n l i : ℕ) → v .visit .cell % 1024 ≡ b → i + l ≡ n
+    → later-bounds v k (row-in numbers times cells l i) ≡ later-bounds v k (row-in numbers times cells (left-in cells b l i) (n - left-in cells b l i))
+unfolding left-in later-bounds row-in placed entry-at entry-in stops-in stop-at
 left-skip numbers times cells v k b n zero i r e = refl
 left-skip numbers times cells v k b n (suc l) i r e =
     by (eqb (getD cells i 0 % 1024) b) refl (left-skip numbers times cells v k b n l (suc i) r (omega arith))
   where
-    rest : List Stop
-    rest = stops-in numbers times cells l (suc i)
+    rest : List Entry
+    rest = row-in numbers times cells l (suc i)
 
     by : (t : Bool) → eqb (getD cells i 0 % 1024) b ≡ t
-        → later-carts v k rest ≡ later-carts v k (stops-in numbers times cells (left-in cells b l (suc i)) (n - left-in cells b l (suc i)))
-        → later-carts v k (stop-at numbers times cells i ∷ rest)
-        ≡ later-carts v k (stops-in numbers times cells (cond t (suc l) (left-in cells b l (suc i))) (n - cond t (suc l) (left-in cells b l (suc i))))
+        → later-bounds v k rest ≡ later-bounds v k (row-in numbers times cells (left-in cells b l (suc i)) (n - left-in cells b l (suc i)))
+        → later-bounds v k (entry-in numbers times cells i ∷ rest)
+        ≡ later-bounds v k (row-in numbers times cells (cond t (suc l) (left-in cells b l (suc i))) (n - cond t (suc l) (left-in cells b l (suc i))))
     by true q more =
         let here : i ≡ n - suc l = omega arith in
-        ap (λ (m : ℕ). later-carts v k (stops-in numbers times cells (suc l) m)) here
+        ap (λ (m : ℕ). later-bounds v k (row-in numbers times cells (suc l) m)) here
     by false q more =
         let u : Stop = stop-at numbers times cells i in
-        let apart : v .cell ≢ u .cell = λ s. eqb-false (getD cells i 0 % 1024) b q (ap (λ (x : ℕ). x % 1024) (sym s) ∙ r) in
-        ap (λ (t : Bool). cond t (suc (later-carts v (u .cart) rest)) (later-carts v k rest)) (other-cell v u k apart) ∙ more
+        let apart : v .visit .cell ≢ u .cell = λ s. eqb-false (getD cells i 0 % 1024) b q (ap (λ (x : ℕ). x % 1024) (sym s) ∙ r) in
+        ap (λ (t : Bool). cond t (no-earlier (v .event + 1) (entry-at i u - 1) ∷ later-bounds v (u .cart) rest) (later-bounds v k rest)) (other-cell (v .visit) u k apart) ∙ more
 
 -- ---- linking
 
@@ -150,54 +152,60 @@ module _ (numbers times cells heads nexts : List ℕ) (n : ℕ) (k : Linked cell
       ∙ ap (λ (m : ℕ). left-in cells (getD cells m 0 % 1024) (n - (i + 1)) (n - (n - (i + 1)))) (sym here)
       ∙ ap (λ (m : ℕ). left-in cells (getD cells i 0 % 1024) (n - (i + 1)) m) after
 
-  module _ (v : Stop) where
+  module _ (v : Entry) where
     -- at its first visit all carts are yet to be counted
-    pub walk-begins : (left : ℕ) → left ≡ getD heads (v .cell % 1024) 0
-        → (left ≤ n) × (0 < left → getD cells (n - left) 0 % 1024 ≡ v .cell % 1024)
-        × (later-carts v 0 (stops-in numbers times cells left (n - left)) ≡ later-carts v 0 (stops-in numbers times cells n 0))
+    pub walk-begins : (left : ℕ) → left ≡ getD heads (v .visit .cell % 1024) 0
+        → (left ≤ n) × (0 < left → getD cells (n - left) 0 % 1024 ≡ v .visit .cell % 1024)
+        × (later-bounds v 0 (row-in numbers times cells left (n - left)) ≡ later-bounds v 0 (row-in numbers times cells n 0))
     walk-begins left e =
-        let b : ℕ = v .cell % 1024 in
+        let b : ℕ = v .visit .cell % 1024 in
         let first : left ≡ left-in cells b n 0 = e ∙ head-is b (omega arith) in
         subst
-        (λ (x : ℕ). (x ≤ n) × (0 < x → getD cells (n - x) 0 % 1024 ≡ b) × (later-carts v 0 (stops-in numbers times cells x (n - x)) ≡ later-carts v 0 (stops-in numbers times cells n 0)))
+        (λ (x : ℕ). (x ≤ n) × (0 < x → getD cells (n - x) 0 % 1024 ≡ b) × (later-bounds v 0 (row-in numbers times cells x (n - x)) ≡ later-bounds v 0 (row-in numbers times cells n 0)))
         (sym first)
         (left-most cells b n 0, left-there cells b n n 0 (omega arith), sym (left-skip numbers times cells v 0 b n n 0 refl (omega arith)))
 
     -- after visit i the next is of the same remainder, and those between are passed over
-    walk-next : (i : ℕ) → i < n → getD cells i 0 % 1024 ≡ v .cell % 1024 → (left : ℕ) → left ≡ getD nexts i 0
-        → (left ≤ n - (i + 1)) × (0 < left → getD cells (n - left) 0 % 1024 ≡ v .cell % 1024)
-        × ((m : ℕ) → later-carts v m (stops-in numbers times cells (n - (i + 1)) (i + 1)) ≡ later-carts v m (stops-in numbers times cells left (n - left)))
+    walk-next : (i : ℕ) → i < n → getD cells i 0 % 1024 ≡ v .visit .cell % 1024 → (left : ℕ) → left ≡ getD nexts i 0
+        → (left ≤ n - (i + 1)) × (0 < left → getD cells (n - left) 0 % 1024 ≡ v .visit .cell % 1024)
+        × ((m : ℕ) → later-bounds v m (row-in numbers times cells (n - (i + 1)) (i + 1)) ≡ later-bounds v m (row-in numbers times cells left (n - left)))
     walk-next i h same left e =
-        let b : ℕ = v .cell % 1024 in
+        let b : ℕ = v .visit .cell % 1024 in
         let next : left ≡ left-in cells b (n - (i + 1)) (i + 1) = e ∙ next-is i h ∙ ap (λ (x : ℕ). left-in cells x (n - (i + 1)) (i + 1)) same in
         subst
         (λ (x : ℕ). (x ≤ n - (i + 1)) × (0 < x → getD cells (n - x) 0 % 1024 ≡ b)
-        × ((m : ℕ) → later-carts v m (stops-in numbers times cells (n - (i + 1)) (i + 1)) ≡ later-carts v m (stops-in numbers times cells x (n - x))))
+        × ((m : ℕ) → later-bounds v m (row-in numbers times cells (n - (i + 1)) (i + 1)) ≡ later-bounds v m (row-in numbers times cells x (n - x))))
         (sym next) (
           left-most cells b (n - (i + 1)) (i + 1),
           left-there cells b n (n - (i + 1)) (i + 1) (omega arith),
           λ m. left-skip numbers times cells v m b n (n - (i + 1)) (i + 1) refl (omega arith),
         )
 
-    module _ (left : ℕ) (some : 0 < left) (within : left ≤ n) (same : getD cells (n - left) 0 % 1024 ≡ v .cell % 1024) (next : ℕ) (e : next ≡ getD nexts (n - left) 0) where
+    module _ (left : ℕ) (some : 0 < left) (within : left ≤ n) (same : getD cells (n - left) 0 % 1024 ≡ v .visit .cell % 1024) (next : ℕ) (e : next ≡ getD nexts (n - left) 0) where
       -- the visit at hand is the first of those left
-      at-hand : (m : ℕ) → later-carts v m (stops-in numbers times cells left (n - left)) ≡ later-carts v m (stops-in numbers times cells (n - (n - left)) (n - left))
-      at-hand m = let all : left ≡ n - (n - left) = omega arith in ap (λ (x : ℕ). later-carts v m (stops-in numbers times cells x (n - left))) all
+      at-hand : (m : ℕ) → later-bounds v m (row-in numbers times cells left (n - left)) ≡ later-bounds v m (row-in numbers times cells (n - (n - left)) (n - left))
+      at-hand m = let all : left ≡ n - (n - left) = omega arith in ap (λ (x : ℕ). later-bounds v m (row-in numbers times cells x (n - left))) all
 
       -- fewer are left from the next on, and it is of the same remainder
-      pub walk-goes : (next < left) × (0 < next → getD cells (n - next) 0 % 1024 ≡ v .cell % 1024)
+      pub walk-goes : (next < left) × (0 < next → getD cells (n - next) 0 % 1024 ≡ v .visit .cell % 1024)
       walk-goes = let (l, r, _) = walk-next (n - left) (omega arith) same next e in (omega (arith, l), r)
 
       -- the visit at hand is counted
-      pub walk-counts : (m : ℕ) → counts v m (stop-at numbers times cells (n - left)) ≡ true
-          → later-carts v m (stops-in numbers times cells left (n - left)) ≡ suc (later-carts v (getD numbers (n - left) 0) (stops-in numbers times cells next (n - next)))
+      pub walk-counts : (m : ℕ) → counts (v .visit) m (stop-at numbers times cells (n - left)) ≡ true
+          → later-bounds v m (row-in numbers times cells left (n - left))
+          ≡ no-earlier (v .event + 1) (3 * (n - left) + 3 - 2 * getD numbers (n - left) 0 - 1) ∷ later-bounds v (getD numbers (n - left) 0) (row-in numbers times cells next (n - next))
       walk-counts m q =
           let (_, _, skip) = walk-next (n - left) (omega arith) same next e in
-          at-hand m ∙ later-yes numbers times cells v m n (n - left) (omega arith) q ∙ ap suc (skip (getD numbers (n - left) 0))
+          at-hand m ∙ later-yes numbers times cells v m n (n - left) (omega arith) q ∙ ap (λ (bs : List Bound). no-earlier (v .event + 1) (3 * (n - left) + 3 - 2 * getD numbers (n - left) 0 - 1) ∷ bs) (skip (getD numbers (n - left) 0))
 
       -- or not
-      pub walk-passes : (m : ℕ) → counts v m (stop-at numbers times cells (n - left)) ≡ false
-          → later-carts v m (stops-in numbers times cells left (n - left)) ≡ later-carts v m (stops-in numbers times cells next (n - next))
+      pub walk-passes : (m : ℕ) → counts (v .visit) m (stop-at numbers times cells (n - left)) ≡ false
+          → later-bounds v m (row-in numbers times cells left (n - left)) ≡ later-bounds v m (row-in numbers times cells next (n - next))
       walk-passes m q =
           let (_, _, skip) = walk-next (n - left) (omega arith) same next e in
           at-hand m ∙ later-no numbers times cells v m n (n - left) (omega arith) q ∙ skip m
+
+      -- as a number
+      pub walk-counted : (m : ℕ) → counts (v .visit) m (stop-at numbers times cells (n - left)) ≡ true
+          → length (later-bounds v m (row-in numbers times cells left (n - left))) ≡ suc (length (later-bounds v (getD numbers (n - left) 0) (row-in numbers times cells next (n - next))))
+      walk-counted m q = ap (λ (bs : List Bound). length bs) (walk-counts m q)

@@ -1,2 +1,4 @@
 pub mod Limits
 pub mod Counts
+pub mod Orders
+pub mod Row

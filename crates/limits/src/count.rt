@@ -1,12 +1,30 @@
 // The counts of events and bounds. The visits of all carts are put in a row, cart by cart, in three arrays: the carts' numbers,
 // the steps and the cells.
 ghost use mathlib.Core.Path.{_≡_};
+ghost use mathlib.Core.Bool.{_&&_};
 ghost use mathlib.Core.List.{_++_, map};
 ghost use Prim.Native.Nat.{ℕ, _+_, _*_, _≤_, _<_};
+ghost use lib.Dec.{leb};
 ghost use lib.ListN.{length, take, drop, getD};
+ghost use Rattle.words.specs.Words.{written};
 ghost use Rattle.tables.specs.Arrays.{paths-in};
 ghost use Rattle.network.specs.Events.{visits-of};
+ghost use Rattle.limits.specs.Limits.{of-paths};
+ghost use Rattle.limits.specs.Orders.{first-events};
 ghost use Rattle.limits.specs.Counts.{total, moves, stop, stops, counts, later-carts, orders-among, stop-at, stops-in, Linked};
+
+// Whether there are no more carts and steps than may be, and all cells are there.
+pub(crate) fn all_there(cells: &[u32], carts: usize, steps: usize) -> bool
+    ensures { λ r. ⌜ r ≡ (leb carts 64 && leb steps 1024 && leb (carts * steps) (length (now (cells .entry)))) ⌝ }
+{
+    if 64 < carts {
+        return false;
+    }
+    if 1024 < steps {
+        return false;
+    }
+    carts * steps <= cells.len()
+}
 
 // The moves of the path at place `at`.
 fn moves_of(cells: &[u32], at: usize, steps: usize) -> usize
@@ -48,14 +66,33 @@ pub(crate) fn all_moves(cells: &[u32], carts: usize, steps: usize) -> usize
     n
 }
 
+// Writes the numbers of the carts' first events, and the finish's behind them.
+pub(crate) fn put_firsts(cells: &[u32], carts: usize, steps: usize, firsts: &mut [u16])
+    requires { ⌜ (carts ≤ 64) × (1 ≤ steps) × (steps ≤ 1024) × (carts * steps ≤ length (now cells)) ⌝ }
+    requires { ⌜ 2 + carts + 3 * total moves (paths-in carts steps (now cells)) ≤ 4096 ⌝ }
+    requires { ⌜ carts < length (now firsts) ⌝ }
+    ensures { λ _. ⌜ now (firsts .exit) ≡ written (first-events (of-paths (paths-in carts steps (now (cells .entry))))) (now (firsts .entry)) ⌝ }
+{
+    let mut e: usize = 1;
+    let mut i: usize = 0;
+    let mut at: usize = 0;
+    while i < carts {
+        firsts[i] = e as u16;
+        e += 3 * moves_of(cells, at, steps) + 1;
+        at += steps;
+        i += 1;
+    }
+    firsts[carts] = e as u16;
+}
+
 // Puts the visits of the path at place `at`, a path of cart number j, behind the first n visits of a row.
 fn put_visits(
     cells: &[u32],
     at: usize,
     steps: usize,
-    j: u16,
+    j: u8,
     n: usize,
-    numbers: &mut [u16],
+    numbers: &mut [u8],
     times: &mut [u16],
     places: &mut [u32],
 ) -> usize
@@ -88,11 +125,11 @@ fn put_visits(
 }
 
 // Puts the visits of all paths in a row; returns how many there are.
-fn put_all(
+pub(crate) fn put_all(
     cells: &[u32],
     carts: usize,
     steps: usize,
-    numbers: &mut [u16],
+    numbers: &mut [u8],
     times: &mut [u16],
     places: &mut [u32],
 ) -> usize
@@ -108,7 +145,7 @@ fn put_all(
     let mut at: usize = 0;
     while i < carts {
         let j = i + 1;
-        n = put_visits(cells, at, steps, j as u16, n, numbers, times, places);
+        n = put_visits(cells, at, steps, j as u8, n, numbers, times, places);
         at += steps;
         i = j;
     }
@@ -116,7 +153,7 @@ fn put_all(
 }
 
 // Whether a visit of cart i at step s to cell x is later than one of cart j at step t, to the same cell c, and by a cart that is neither j nor k.
-fn is_counted(j: u16, t: u16, c: u32, k: u16, i: u16, s: u16, x: u32) -> bool
+pub(crate) fn is_counted(j: u8, t: u16, c: u32, k: u8, i: u8, s: u16, x: u32) -> bool
     ensures { λ r. ⌜ r ≡ counts (record { cart = j; step = t; cell = c }) k (record { cart = i; step = s; cell = x }) ⌝ }
 {
     if j == i {
@@ -132,7 +169,7 @@ fn is_counted(j: u16, t: u16, c: u32, k: u16, i: u16, s: u16, x: u32) -> bool
 }
 
 // Links n visits: to each the next whose cell has the same remainder.
-fn link(places: &[u32], n: usize, heads: &mut [u16], nexts: &mut [u16])
+pub(crate) fn link(places: &[u32], n: usize, heads: &mut [u16], nexts: &mut [u16])
     requires { ⌜ (n ≤ 1408) × (length (now places) ≡ 1408) × (length (now heads) ≡ 1024) × (length (now nexts) ≡ 1408) ⌝ }
     requires { ⌜ ((b : ℕ) → b < 1024 → getD (now heads) b 0 ≡ 0) ⌝ }
     ensures { λ _. ⌜ Linked (now (places .entry)) (now (heads .exit)) (now (nexts .exit)) n n ⌝ }
@@ -149,7 +186,7 @@ fn link(places: &[u32], n: usize, heads: &mut [u16], nexts: &mut [u16])
 
 // How many other carts visit the cell of visit v later. The visits of its remainder are gone through.
 fn others_later(
-    numbers: &[u16],
+    numbers: &[u8],
     times: &[u16],
     places: &[u32],
     heads: &[u16],
@@ -166,7 +203,7 @@ fn others_later(
     let j = numbers[v];
     let t = times[v];
     let c = places[v];
-    let mut k: u16 = 0;
+    let mut k: u8 = 0;
     let mut count: usize = 0;
     let mut left = heads[(c % 1024) as usize] as usize;
     while 0 < left {
@@ -183,7 +220,7 @@ fn others_later(
 
 // How many order bounds there are among n visits.
 fn orders_among(
-    numbers: &[u16],
+    numbers: &[u8],
     times: &[u16],
     places: &[u32],
     heads: &[u16],
@@ -214,7 +251,7 @@ pub(crate) fn all_orders(cells: &[u32], carts: usize, steps: usize) -> usize
     ensures { λ r. ⌜ r ≡ orders-among (stops 1 (paths-in carts steps (now (cells .entry)))) ⌝ }
     ensures { λ r. ⌜ r ≤ 2000000 ⌝ }
 {
-    let mut numbers: [u16; 1408] = [0; 1408];
+    let mut numbers: [u8; 1408] = [0; 1408];
     let mut times: [u16; 1408] = [0; 1408];
     let mut places: [u32; 1408] = [0; 1408];
     let n = put_all(cells, carts, steps, &mut numbers, &mut times, &mut places);

@@ -29,9 +29,6 @@ mul-c c = search needs
 shared-slice-read-c : tie.Need-shared-slice-read-c Inv-loop μ-loop
 shared-slice-read-c c = search needs
 
-mul-numbers : tie.Need-mul-numbers Inv-loop μ-loop
-mul-numbers c = search needs
-
 slice-write-numbers : tie.Need-slice-write-numbers Inv-loop μ-loop
 slice-write-numbers c = search needs
 
@@ -81,9 +78,6 @@ room c =
     let e : l .loop .m + moves-after (l .loop .c) (steps-from (a .cells .now) (a .at) (a .steps) (l .loop .s)) ≡ a .n + moves (take (a .steps) (drop (a .at) (a .cells .now))) + 1 = l .loop .inv .5 in
     let p : a .n + moves (take (a .steps) (drop (a .at) (a .cells .now))) < 1408 = l .before .before .pre .1 .0 in
     omega (arith, moves-move (a .cells .now) (a .at) (a .steps) h (l .loop .c) (l .loop .s) (c .before .before .loop-test .taken) (c .if1 .taken))
-
-mul-numbers-2 : tie.Need-mul-numbers-2 Inv-loop μ-loop
-mul-numbers-2 c = search needs
 
 slice-write-numbers-2 : tie.Need-slice-write-numbers-2 Inv-loop μ-loop
 slice-write-numbers-2 c = omega (arith, room c)
@@ -184,7 +178,6 @@ put-visits-spec =
     μ-loop
     mul-c
     shared-slice-read-c
-    mul-numbers
     slice-write-numbers
     mul-times
     slice-write-times
@@ -195,7 +188,6 @@ put-visits-spec =
     add-d
     mul-d
     shared-slice-read-d
-    mul-numbers-2
     slice-write-numbers-2
     cast-times
     mul-times-2

@@ -1,0 +1,162 @@
+-- The first events of paths and the finish's, one path after the other. Assumes nothing.
+use Prim.Native.Nat.{ℕ, suc, _+_, _*_, _-_, _≤_, _<_}
+use native.Mathlib.Numerals.{add-one}
+use native.Mathlib.Omega.{arith}
+use mathlib.Core.Path.{_≡_, refl, ap, sym, _∙_}
+use mathlib.Core.Bool.{Bool, true, false, true≢false, not, _&&_, cond}
+use mathlib.Core.List.{List, [], _∷_, _++_, map}
+use borrow.Author.Tests.{le-leb, lt-leb}
+use lib.Dec.{leb}
+use lib.ListN.{length, take, drop, set, length-drop}
+use lib.Seq.{sets, sets-eq, length-take-le}
+use Rattle.words.specs.Words.{written}
+use Rattle.tables.specs.Arrays.{paths-in}
+use Rattle.tables.proofs.PathRecords.{paths-in-length}
+use Rattle.floor.specs.Plan.{Cart, Plan}
+use Rattle.network.specs.Events.{Route, routes, routes-of, event-count, finish-event}
+use Rattle.limits.specs.Limits.{of-paths}
+use Rattle.limits.specs.Orders.{first-events, events-fit, firsts-fitting}
+use Rattle.limits.specs.Counts.{total, moves}
+use Rattle.limits.proofs.RowBounds.{of-paths-carts}
+use Rattle.limits.proofs.Counts.{path-points, events-are}
+use Rattle.limits.proofs.CountSteps.{paths-cons, paths-none}
+use Rattle.limits.proofs.LimitSteps.{path-events, all-events, failed}
+
+-- the first event of each path, the first numbered e, and the number behind the last path's
+abbrev pub firsts-from : ℕ → List (List ℕ) → List ℕ
+firsts-from e [] = e ∷ []
+firsts-from e (p ∷ ps) = e ∷ firsts-from (e + path-points p) ps
+
+-- so of routes
+routes-firsts : (cs : List Cart) (ps : List (List ℕ)) (j e : ℕ) → length cs ≡ length ps
+    → map (λ (r : Route). r .first) (routes j e cs ps) ++ ((e + total path-points ps) ∷ []) ≡ firsts-from e ps
+unfolding routes total
+routes-firsts [] [] j e h = let same : e + 0 ≡ e = omega arith in ap (λ (n : ℕ). n ∷ []) same
+routes-firsts [] (p ∷ ps) j e h = absurd (omega arith)
+routes-firsts (c ∷ cs) [] j e h = absurd (omega arith)
+routes-firsts (c ∷ cs) (p ∷ ps) j e h =
+    let f : ℕ = e + path-points p in
+    let last : e + (path-points p + total path-points ps) ≡ f + total path-points ps = omega arith in
+    ap (λ (n : ℕ). e ∷ (map (λ (r : Route). r .first) (routes (suc j) f cs ps) ++ (n ∷ []))) last
+    ∙ ap (λ (l : List ℕ). e ∷ l) (routes-firsts cs ps (suc j) f (omega arith))
+
+-- of a plan
+pub first-events-are : (p : Plan) → length (p .carts) ≡ length (p .paths) → first-events p ≡ firsts-from 1 (p .paths)
+unfolding first-events routes-of finish-event
+first-events-are p h =
+    let last : event-count p - 1 ≡ 1 + total path-points (p .paths) = omega (arith, events-are p h) in
+    ap (λ (n : ℕ). map (λ (r : Route). r .first) (routes 1 1 (p .carts) (p .paths)) ++ (n ∷ [])) last
+    ∙ routes-firsts (p .carts) (p .paths) 1 1 h
+
+-- of a plan of paths
+of-paths-firsts : (ps : List (List ℕ)) → first-events (of-paths ps) ≡ firsts-from 1 ps
+unfolding of-paths
+of-paths-firsts ps = first-events-are (of-paths ps) (of-paths-carts ps)
+
+-- they go by the paths alone
+pub firsts-by-paths : (p : Plan) → length (p .carts) ≡ length (p .paths) → first-events p ≡ first-events (of-paths (p .paths))
+firsts-by-paths p h = first-events-are p h ∙ sym (of-paths-firsts (p .paths))
+
+-- ---- written
+
+-- numbers stored from the first place on are written over the front
+pub sets-written : (vs l : List ℕ) → length vs ≤ length l → sets l 0 vs ≡ written vs l
+unfolding written
+sets-written vs l h = let all : 0 + length vs ≡ length vs = omega arith in sets-eq vs l 0 (omega arith) ∙ ap (λ (n : ℕ). vs ++ drop n l) all
+
+-- one for each path, and one
+pub firsts-count : (ps : List (List ℕ)) (e : ℕ) → length (firsts-from e ps) ≡ suc (length ps)
+firsts-count [] e = refl
+firsts-count (p ∷ ps) e = ap suc (firsts-count ps (e + path-points p))
+
+-- the path at hand: its number, and those of the paths after it, past its points
+firsts-cons : (n i w at : ℕ) (s : List ℕ) → i < n → 1 ≤ w → at + w ≤ length s → (e : ℕ)
+    → firsts-from e (paths-in (n - i) w (drop at s))
+    ≡ e ∷ firsts-from (e + (3 * moves (take w (drop at s)) + 1)) (paths-in (n - (i + 1)) w (drop (at + w) s))
+firsts-cons n i w at s l some fits e =
+    let here : length (take w (drop at s)) ≡ w = length-take-le w (drop at s) (omega (arith, length-drop at s)) in
+    let more : path-points (take w (drop at s)) ≡ 3 * moves (take w (drop at s)) + 1 = omega (arith, path-events (take w (drop at s)) (omega arith)) in
+    ap (firsts-from e) (paths-cons n i w at s l)
+    ∙ ap (λ (k : ℕ). e ∷ firsts-from (e + k) (paths-in (n - (i + 1)) w (drop (at + w) s))) more
+
+-- it is written
+pub first-written : (n i w at : ℕ) (s : List ℕ) → i < n → 1 ≤ w → at + w ≤ length s → (e m : ℕ) → m ≡ moves (take w (drop at s)) → (fs : List ℕ)
+    → sets (set fs i e) (i + 1) (firsts-from (e + (3 * m + 1)) (paths-in (n - (i + 1)) w (drop (at + w) s))) ≡ sets fs i (firsts-from e (paths-in (n - i) w (drop at s)))
+first-written n i w at s l some fits e m h fs =
+    let rest : List (List ℕ) = paths-in (n - (i + 1)) w (drop (at + w) s) in
+    ap (λ (k : ℕ). sets (set fs i e) (i + 1) (firsts-from (e + (3 * k + 1)) rest)) h
+    ∙ ap (λ (k : ℕ). sets (set fs i e) k (firsts-from (e + (3 * moves (take w (drop at s)) + 1)) rest)) (add-one i)
+    ∙ ap (λ (k : List ℕ). sets fs i k) (sym (firsts-cons n i w at s l some fits e))
+
+-- behind the last path's stands the finish's
+pub finish-written : (n i w e : ℕ) (r fs : List ℕ) → i ≡ n → set fs n e ≡ sets fs i (firsts-from e (paths-in (n - i) w r))
+finish-written n i w e r fs h =
+    ap (λ (k : ℕ). set fs k e) (sym h) ∙ ap (λ (ps : List (List ℕ)). sets fs i (firsts-from e ps)) (sym (paths-none n i w r (omega arith)))
+
+-- all of them
+pub firsts-written : (n w : ℕ) (s fs : List ℕ) → n < length fs
+    → sets fs 0 (firsts-from 1 (paths-in n w s)) ≡ written (first-events (of-paths (paths-in n w s))) fs
+firsts-written n w s fs h =
+    let ps : List (List ℕ) = paths-in n w s in
+    let room : length (firsts-from 1 ps) ≤ length fs = omega (arith, firsts-count ps 1, paths-in-length n w s) in
+    sets-written (firsts-from 1 ps) fs room
+    ∙ ap (λ (l : List ℕ). written l fs) (sym (of-paths-firsts ps))
+
+-- ---- the tests
+
+-- how many events there are
+pub events-counted : (n w : ℕ) (s : List ℕ) → 1 ≤ w → n * w ≤ length s → event-count (of-paths (paths-in n w s)) ≡ 2 + n + 3 * total moves (paths-in n w s)
+unfolding of-paths
+events-counted n w s o l = omega (arith, events-are (of-paths (paths-in n w s)) (of-paths-carts (paths-in n w s)), all-events n w s o l)
+
+module _ (n w : ℕ) (s fs : List ℕ) where
+  -- this is to be answered and left
+  abbrev Left : Bool → List ℕ → Type 0
+  Left b fs' = (b ≡ events-fit n w s (length fs)) × (fs' ≡ written (firsts-fitting n w s (length fs)) fs)
+
+  -- where they do not fit
+  none-fit : events-fit n w s (length fs) ≡ false → Left false fs
+  unfolding firsts-fitting written
+  none-fit e = (sym e, ap (λ (b : Bool). written (cond b (first-events (of-paths (paths-in n w s))) []) fs) (sym e))
+
+  -- too many carts or steps, or not all cells there
+  pub firsts-missing : (b : Bool) → b ≡ (leb n 64 && leb w 1024 && leb (n * w) (length s)) → not b ≡ true → Left false fs
+  unfolding events-fit
+  firsts-missing b q e =
+      none-fit (by (leb n 64) (leb 1 w) (leb w 1024) (leb (n * w) (length s)) (leb (event-count (of-paths (paths-in n w s))) 4096) (leb (suc n) (length fs)) (sym q ∙ failed b e))
+    where
+      by : (a x c d y z : Bool) → (a && c && d) ≡ false → (a && x && c && d && y && z) ≡ false
+      by false x c d y z h = refl
+      by true false c d y z h = refl
+      by true true false d y z h = refl
+      by true true true false y z h = refl
+      by true true true true y z h = absurd (true≢false h)
+
+  -- no steps
+  pub firsts-steps : n ≤ 64 → w ≡ 0 → Left false fs
+  unfolding events-fit
+  firsts-steps h e = none-fit (simp (le-leb n 64 h, lt-leb 1 w (omega arith)))
+
+  module _ (h : n ≤ 64) (o : 1 ≤ w) (k : w ≤ 1024) (l : n * w ≤ length s) (m : ℕ) (e : m ≡ total moves (paths-in n w s)) where
+    -- too many events
+    pub firsts-events : 4096 < 2 + n + 3 * m → Left false fs
+    unfolding events-fit
+    firsts-events over =
+        let many : 4096 < event-count (of-paths (paths-in n w s)) = omega (arith, events-counted n w s o l) in
+        none-fit (simp (le-leb n 64 h, le-leb 1 w o, le-leb w 1024 k, le-leb (n * w) (length s) l, lt-leb (event-count (of-paths (paths-in n w s))) 4096 many))
+
+    -- no room
+    pub firsts-room : 2 + n + 3 * m ≤ 4096 → length fs ≤ n → Left false fs
+    unfolding events-fit
+    firsts-room under small =
+        let few : event-count (of-paths (paths-in n w s)) ≤ 4096 = omega (arith, events-counted n w s o l) in
+        none-fit (simp (le-leb n 64 h, le-leb 1 w o, le-leb w 1024 k, le-leb (n * w) (length s) l, le-leb (event-count (of-paths (paths-in n w s))) 4096 few, lt-leb (suc n) (length fs) (omega arith)))
+
+    -- else they are written
+    pub firsts-fit : 2 + n + 3 * m ≤ 4096 → n < length fs → (fs' : List ℕ) → fs' ≡ written (first-events (of-paths (paths-in n w s))) fs → Left true fs'
+    unfolding events-fit firsts-fitting
+    firsts-fit under room fs' q =
+        let few : event-count (of-paths (paths-in n w s)) ≤ 4096 = omega (arith, events-counted n w s o l) in
+        let fit : true ≡ events-fit n w s (length fs) =
+        simp (le-leb n 64 h, le-leb 1 w o, le-leb w 1024 k, le-leb (n * w) (length s) l, le-leb (event-count (of-paths (paths-in n w s))) 4096 few, le-leb (suc n) (length fs) room) in
+        (fit, q ∙ ap (λ (b : Bool). written (cond b (first-events (of-paths (paths-in n w s))) []) fs) fit)

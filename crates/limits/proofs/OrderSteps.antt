@@ -1,0 +1,224 @@
+-- Order bounds written to two arrays, some after the other. Assumes nothing.
+use Prim.Native.Nat.{ℕ, suc, _+_, _*_, _≤_, _<_}
+use native.Mathlib.Omega.{arith}
+use mathlib.Core.Path.{_≡_, refl, ap, sym, _∙_, subst}
+use mathlib.Core.List.{List, [], _∷_, _++_, flatMap, append-assoc}
+use mathlib.Core.Bool.{Bool, true, false, not, _&&_, cond}
+use lib.Dec.{T, leb, leb→le}
+use mir.Facts.{and-yes}
+use lib.ListN.{length, set, length-append}
+use lib.Seq.{sets, length-sets}
+use borrow.Author.Tests.{le-leb, lt-leb}
+use Rattle.laws.proofs.Tests.{passes}
+use Rattle.words.specs.Words.{written}
+use Rattle.tables.specs.Arrays.{paths-in}
+use Rattle.network.specs.Events.{routes-of, event-count}
+use Rattle.network.specs.Bounds.{Bound, no-earlier, order-bounds, bounds}
+use Rattle.network.specs.BoundArrays.{bound-ends, bound-range}
+use Rattle.limits.specs.Limits.{of-paths, limits-kept, paths-within}
+use Rattle.limits.specs.Orders.{orders-fitting}
+use Rattle.limits.specs.Counts.{total, moves, stops, orders-among}
+use Rattle.limits.proofs.RowBounds.{of-paths-carts, order-count-is}
+use Rattle.limits.proofs.LimitSteps.{failed, passed, there-says}
+use Rattle.limits.proofs.Firsts.{sets-written, events-counted}
+
+-- ---- numbers behind numbers
+
+-- stored behind those stored first
+sets-append : (xs ys s : List ℕ) (i : ℕ) → sets (sets s i xs) (i + length xs) ys ≡ sets s i (xs ++ ys)
+sets-append [] ys s i = let same : i + 0 ≡ i = omega arith in ap (λ (n : ℕ). sets s n ys) same
+sets-append (x ∷ xs) ys s i =
+    let next : i + suc (length xs) ≡ suc i + length xs = omega arith in
+    ap (λ (n : ℕ). sets (sets (set s i x) (suc i) xs) n ys) next ∙ sets-append xs ys (set s i x) (suc i)
+
+module _ (f : Bound → List ℕ) (two : (b : Bound) → length (f b) ≡ 2) where
+  -- the numbers of bounds
+  flat-append : (bs cs : List Bound) → flatMap f (bs ++ cs) ≡ flatMap f bs ++ flatMap f cs
+  unfolding flatMap
+  flat-append [] cs = refl
+  flat-append (b ∷ bs) cs = ap (λ (r : List ℕ). f b ++ r) (flat-append bs cs) ∙ sym (append-assoc (f b) (flatMap f bs) (flatMap f cs))
+
+  -- two for each
+  pub flat-length : (bs : List Bound) → length (flatMap f bs) ≡ 2 * length bs
+  unfolding flatMap
+  flat-length [] = refl
+  flat-length (b ∷ bs) = omega (arith, length-append (f b) (flatMap f bs), two b, flat-length bs)
+
+  -- bounds behind those written first
+  pub flat-sets : (bs cs : List Bound) (s : List ℕ) (k m : ℕ) → m ≡ k + length bs
+      → sets (sets s (2 * k) (flatMap f bs)) (2 * m) (flatMap f cs) ≡ sets s (2 * k) (flatMap f (bs ++ cs))
+  flat-sets bs cs s k m e =
+      let far : 2 * m ≡ 2 * k + length (flatMap f bs) = omega (arith, flat-length bs) in
+      ap (λ (n : ℕ). sets (sets s (2 * k) (flatMap f bs)) n (flatMap f cs)) far
+      ∙ sets-append (flatMap f bs) (flatMap f cs) s (2 * k)
+      ∙ ap (sets s (2 * k)) (sym (flat-append bs cs))
+
+-- a bound's two ends
+pub ends-two : (b : Bound) → length (bound-ends b) ≡ 2
+unfolding bound-ends
+ends-two b = refl
+
+-- its range's two numbers
+pub range-two : (b : Bound) → length (bound-range b) ≡ 2
+unfolding bound-range
+range-two b = refl
+
+-- ---- some written, others to come
+
+-- of all bounds, from number k on, these are yet to be written, from number m on
+pub record ToWrite (all : List Bound) (k : ℕ) (ends₀ ranges₀ : List ℕ) (bs : List Bound) (m : ℕ) (ends ranges : List ℕ) : Type 0 where
+  pub counted : m + length bs ≡ k + length all
+  pub ends-long : length ends ≡ length ends₀
+  pub ranges-long : length ranges ≡ length ranges₀
+  pub ends-then : sets ends (2 * m) (flatMap bound-ends bs) ≡ sets ends₀ (2 * k) (flatMap bound-ends all)
+  pub ranges-then : sets ranges (2 * m) (flatMap bound-range bs) ≡ sets ranges₀ (2 * k) (flatMap bound-range all)
+
+-- at first all
+pub write-first : (all bs : List Bound) (k : ℕ) (ends ranges : List ℕ) → bs ≡ all → ToWrite all k ends ranges bs k ends ranges
+write-first all bs k ends ranges e =
+    subst (λ (l : List Bound). ToWrite all k ends ranges l k ends ranges) (sym e)
+    (record { counted = refl; ends-long = refl; ranges-long = refl; ends-then = refl; ranges-then = refl })
+
+module _ (all : List Bound) (k : ℕ) (ends₀ ranges₀ : List ℕ) (bs : List Bound) (m : ℕ) (ends ranges : List ℕ) (t : ToWrite all k ends₀ ranges₀ bs m ends ranges) where
+  -- some are written
+  pub write-some : (some cs : List Bound) → bs ≡ some ++ cs → (m' : ℕ) (ends' ranges' : List ℕ) → m' ≡ m + length some
+      → ends' ≡ sets ends (2 * m) (flatMap bound-ends some) → ranges' ≡ sets ranges (2 * m) (flatMap bound-range some)
+      → ToWrite all k ends₀ ranges₀ cs m' ends' ranges'
+  write-some some cs e m' ends' ranges' em ee er =
+      record {
+        counted = omega (arith, t .counted, ap (λ (l : List Bound). length l) e, length-append some cs);
+        ends-long = ap (λ (l : List ℕ). length l) ee ∙ length-sets ends (2 * m) (flatMap bound-ends some) ∙ t .ends-long;
+        ranges-long = ap (λ (l : List ℕ). length l) er ∙ length-sets ranges (2 * m) (flatMap bound-range some) ∙ t .ranges-long;
+        ends-then =
+            ap (λ (l : List ℕ). sets l (2 * m') (flatMap bound-ends cs)) ee
+            ∙ flat-sets bound-ends ends-two some cs ends m m' em
+            ∙ ap (λ (l : List Bound). sets ends (2 * m) (flatMap bound-ends l)) (sym e)
+            ∙ t .ends-then;
+        ranges-then =
+            ap (λ (l : List ℕ). sets l (2 * m') (flatMap bound-range cs)) er
+            ∙ flat-sets bound-range range-two some cs ranges m m' em
+            ∙ ap (λ (l : List Bound). sets ranges (2 * m) (flatMap bound-range l)) (sym e)
+            ∙ t .ranges-then;
+      }
+
+  -- one is
+  pub write-one : (u v u' v' : ℕ) (cs : List Bound) → bs ≡ no-earlier u v ∷ cs → u' ≡ u → v' ≡ v → (m' : ℕ) (ends' ranges' : List ℕ) → m' ≡ m + 1
+      → ends' ≡ sets ends (2 * m) (bound-ends (no-earlier u' v')) → ranges' ≡ sets ranges (2 * m) (bound-range (no-earlier u' v'))
+      → ToWrite all k ends₀ ranges₀ cs m' ends' ranges'
+  unfolding flatMap bound-ends bound-range
+  write-one u v u' v' cs e eu ev m' ends' ranges' em ee er =
+      let same : no-earlier u' v' ≡ no-earlier u v = ap (λ (x : ℕ). no-earlier x v') eu ∙ ap (λ (x : ℕ). no-earlier u x) ev in
+      write-some (no-earlier u v ∷ []) cs e m' ends' ranges' em
+      (ee ∙ ap (λ (b : Bound). sets ends (2 * m) (bound-ends b)) same) (er ∙ ap (λ (b : Bound). sets ranges (2 * m) (bound-range b)) same)
+
+  -- none is
+  pub write-none : (cs : List Bound) → bs ≡ cs → (m' : ℕ) (ends' ranges' : List ℕ) → m' ≡ m → ends' ≡ ends → ranges' ≡ ranges → ToWrite all k ends₀ ranges₀ cs m' ends' ranges'
+  unfolding flatMap
+  write-none cs e m' ends' ranges' em ee er = write-some [] cs e m' ends' ranges' (omega (arith, em)) ee er
+
+  -- there is room for those that are next
+  pub room-some : (some cs : List Bound) → bs ≡ some ++ cs → 2 * (k + length all) ≤ length ends₀ → 2 * (k + length all) ≤ length ranges₀
+      → (2 * (m + length some) ≤ length ends) × (2 * (m + length some) ≤ length ranges)
+  room-some some cs e he hr =
+      let both : length bs ≡ length some + length cs = ap (λ (l : List Bound). length l) e ∙ length-append some cs in
+      (omega (arith, t .counted, t .ends-long), omega (arith, t .counted, t .ranges-long))
+
+  -- for one
+  pub room-one : (b : Bound) (cs : List Bound) → bs ≡ b ∷ cs → 2 * (k + length all) ≤ length ends₀ → 2 * (k + length all) ≤ length ranges₀
+      → (2 * m + 2 ≤ length ends) × (2 * m + 2 ≤ length ranges)
+  room-one b cs e he hr = let (l, r) = room-some (b ∷ []) cs e he hr in (omega (arith, l), omega (arith, r))
+
+  -- at last all are written
+  pub written-all : bs ≡ [] → (m ≡ k + length all) × ((ends ≡ sets ends₀ (2 * k) (flatMap bound-ends all)) × (ranges ≡ sets ranges₀ (2 * k) (flatMap bound-range all)))
+  unfolding flatMap
+  written-all e =
+      let none : length bs ≡ 0 = ap (λ (l : List Bound). length l) e in (
+        omega (arith, t .counted),
+        (ap (λ (l : List Bound). sets ends (2 * m) (flatMap bound-ends l)) (sym e) ∙ t .ends-then, ap (λ (l : List Bound). sets ranges (2 * m) (flatMap bound-range l)) (sym e) ∙ t .ranges-then),
+      )
+
+-- ---- all order bounds
+
+-- what is stored from the first place on is written over the front
+pub all-written : (row os : List Bound) (ends ranges ends' ranges' : List ℕ) (m : ℕ) → row ≡ os → 2 * length os ≤ length ends → 2 * length os ≤ length ranges
+    → m ≡ length row → ends' ≡ sets ends 0 (flatMap bound-ends row) → ranges' ≡ sets ranges 0 (flatMap bound-range row)
+    → (m ≡ length os) × ((ends' ≡ written (flatMap bound-ends os) ends) × (ranges' ≡ written (flatMap bound-range os) ranges))
+all-written row os ends ranges ends' ranges' m e he hr em ee er = (
+  em ∙ ap (λ (l : List Bound). length l) e,
+  (
+    ee ∙ ap (λ (l : List Bound). sets ends 0 (flatMap bound-ends l)) e ∙ sets-written (flatMap bound-ends os) ends (omega (arith, flat-length bound-ends ends-two os)),
+    er ∙ ap (λ (l : List Bound). sets ranges 0 (flatMap bound-range l)) e ∙ sets-written (flatMap bound-range os) ranges (omega (arith, flat-length bound-range range-two os)),
+  ),
+)
+
+-- ---- the tests
+
+-- paths that keep the limits are few enough for the code that counts and writes
+pub within-says : (n w : ℕ) (s : List ℕ) (b : Bool) → b ≡ paths-within n w s → not b ≡ false → 1 ≤ w
+    → ((n ≤ 64) × (1 ≤ w) × (w ≤ 1024) × (n * w ≤ length s)) × (n + total moves (paths-in n w s) ≤ 1408)
+unfolding paths-within limits-kept
+within-says n w s b q e o =
+    let ps : List (List ℕ) = paths-in n w s in
+    let there : Bool = leb n 64 && leb w 1024 && leb (n * w) (length s) in
+    let (all, kept) = and-yes there (limits-kept (of-paths ps)) (subst T (sym (passed b e) ∙ q) tt) in
+    let (few, short, cells) = there-says n w s there refl (ap not (passes there all)) in
+    let (events, _) = and-yes (leb (event-count (of-paths ps)) 4096) (leb (length (bounds (of-paths ps))) 8192) kept in
+    let count : event-count (of-paths ps) ≤ 4096 = leb→le (event-count (of-paths ps)) 4096 events in
+    ((few, o, short, cells), omega (arith, few, events-counted n w s o cells))
+
+module _ (n w : ℕ) (s ends ranges : List ℕ) where
+  -- the order bounds of the paths
+  abbrev os : List Bound
+  os = order-bounds (routes-of (of-paths (paths-in n w s)))
+
+  -- this is to be answered and left
+  abbrev Left : ℕ → List ℕ → List ℕ → Type 0
+  Left k ends' ranges' =
+      (k ≡ length (orders-fitting n w s (length ends) (length ranges)))
+      × ((ends' ≡ written (flatMap bound-ends (orders-fitting n w s (length ends) (length ranges))) ends)
+      × (ranges' ≡ written (flatMap bound-range (orders-fitting n w s (length ends) (length ranges))) ranges))
+
+  -- where there are none to write
+  none-fit : (leb 1 w && paths-within n w s && leb (2 * length os) (length ends) && leb (2 * length os) (length ranges)) ≡ false → Left 0 ends ranges
+  unfolding orders-fitting written flatMap
+  none-fit e = (
+    ap (λ (b : Bool). length (cond b os [])) (sym e),
+    (ap (λ (b : Bool). written (flatMap bound-ends (cond b os [])) ends) (sym e), ap (λ (b : Bool). written (flatMap bound-range (cond b os [])) ranges) (sym e)),
+  )
+
+  -- no steps
+  pub orders-steps : w ≡ 0 → Left 0 ends ranges
+  orders-steps e = none-fit (simp (lt-leb 1 w (omega arith)))
+
+  -- limits not kept
+  pub orders-over : 1 ≤ w → (b : Bool) → b ≡ paths-within n w s → not b ≡ true → Left 0 ends ranges
+  orders-over o b q e = none-fit (simp (le-leb 1 w o, sym q ∙ failed b e))
+
+  module _ (o : 1 ≤ w) (b : Bool) (p : b ≡ paths-within n w s) (e : not b ≡ false) (m : ℕ) (q : m ≡ orders-among (stops 1 (paths-in n w s))) where
+    -- as many as are counted
+    pub orders-many : m ≡ length os
+    unfolding of-paths
+    orders-many = q ∙ sym (order-count-is (of-paths (paths-in n w s)) (of-paths-carts (paths-in n w s)))
+
+    -- the limits are kept
+    kept : paths-within n w s ≡ true
+    kept = sym p ∙ passed b e
+
+    -- no room for their ends
+    pub orders-ends : length ends < 2 * m → Left 0 ends ranges
+    orders-ends h = none-fit (simp (le-leb 1 w o, kept, lt-leb (2 * length os) (length ends) (omega (arith, orders-many))))
+
+    -- none for their ranges
+    pub orders-ranges : 2 * m ≤ length ends → length ranges < 2 * m → Left 0 ends ranges
+    orders-ranges g h = none-fit (simp (le-leb 1 w o, kept, le-leb (2 * length os) (length ends) (omega (arith, orders-many)), lt-leb (2 * length os) (length ranges) (omega (arith, orders-many))))
+
+    -- else they are written
+    pub orders-fit : 2 * m ≤ length ends → 2 * m ≤ length ranges → (k : ℕ) (ends' ranges' : List ℕ)
+        → k ≡ length os → ends' ≡ written (flatMap bound-ends os) ends → ranges' ≡ written (flatMap bound-range os) ranges → Left k ends' ranges'
+    unfolding orders-fitting
+    orders-fit g h k ends' ranges' ek ee er =
+        let fit : true ≡ (leb 1 w && paths-within n w s && leb (2 * length os) (length ends) && leb (2 * length os) (length ranges)) =
+        simp (le-leb 1 w o, kept, le-leb (2 * length os) (length ends) (omega (arith, orders-many)), le-leb (2 * length os) (length ranges) (omega (arith, orders-many))) in (
+          ek ∙ ap (λ (b : Bool). length (cond b os [])) fit,
+          (ee ∙ ap (λ (b : Bool). written (flatMap bound-ends (cond b os [])) ends) fit, er ∙ ap (λ (b : Bool). written (flatMap bound-range (cond b os [])) ranges) fit),
+        )

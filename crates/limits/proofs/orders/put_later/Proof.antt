@@ -1,0 +1,252 @@
+-- `limits::orders::put_later` meets its contract. The loop's invariant: the bounds to the last `left` visits are yet to be written, and the visit at
+-- hand is of the remainder looked for. Assumes nothing.
+use Prim.Native.Nat.{ℕ, _+_, _*_, _%_, _≤_, _<_, _-_}
+use native.Mathlib.Omega.{arith}
+use mathlib.Core.Path.{_≡_, refl, ap, sym, _∙_}
+use mathlib.Core.Logic.{⊎-elim}
+use mathlib.Core.List.{List, _∷_}
+use borrow.Author.Needs.{needs}
+use lib.ListN.{length, getD}
+use Rattle.network.specs.Bounds.{Bound, no-earlier}
+use Rattle.limits.specs.Counts.{counts, stop-at, stops-in}
+use Rattle.limits.specs.Row.{Entry, later-bounds, entry-at, placed, entry-in, row-in}
+use Rattle.limits.proofs.Links.{walk-begins, walk-goes, walk-counts, walk-passes}
+use Rattle.limits.proofs.OrderSteps.{ToWrite, write-first, write-one, write-none, room-one, written-all}
+use Rattle.limits.proofs.orders.put_later.Statement.{statement}
+use Rattle.limits.proofs.orders.put_later.Tie as tie
+
+abbrev Inv-loop : tie.InvT-loop
+Inv-loop numbers times places heads nexts n v k ends₀ ranges₀ j t c from last₀ m₀ left₀ ends ranges last m left =
+    (left ≤ n) × (0 < left → getD places (n - left) 0 % 1024 ≡ c % 1024)
+    × ToWrite (later-bounds (entry-in numbers times places v) 0 (row-in numbers times places n 0)) k ends₀ ranges₀
+    (later-bounds (entry-in numbers times places v) last (row-in numbers times places left (n - left))) m ends ranges
+
+abbrev μ-loop : tie.MeasureT-loop
+μ-loop numbers times places heads nexts n v k ends₀ ranges₀ j t c from last₀ m₀ left₀ ends ranges last m left = left
+
+shared-slice-read-j : tie.Need-shared-slice-read-j Inv-loop μ-loop
+shared-slice-read-j c = search needs
+
+mul-t : tie.Need-mul-t Inv-loop μ-loop
+mul-t c = search needs
+
+shared-slice-read-t : tie.Need-shared-slice-read-t Inv-loop μ-loop
+shared-slice-read-t c = search needs
+
+mul-c : tie.Need-mul-c Inv-loop μ-loop
+mul-c c = search needs
+
+shared-slice-read-c : tie.Need-shared-slice-read-c Inv-loop μ-loop
+shared-slice-read-c c = search needs
+
+entry-event-requires : tie.Need-entry-event-requires Inv-loop μ-loop
+entry-event-requires c κs = let z = c .before .before .before .before .before .before .before .before .before .before in (omega arith, z .pre .0 .2 (z .args .v) (z .pre .0 .1))
+
+add-from : tie.Need-add-from Inv-loop μ-loop
+add-from c = search needs
+
+cast-left : tie.Need-cast-left Inv-loop μ-loop
+cast-left c = search needs
+
+mul-left : tie.Need-mul-left Inv-loop μ-loop
+mul-left c = search needs
+
+shared-slice-read-left : tie.Need-shared-slice-read-left Inv-loop μ-loop
+shared-slice-read-left c = search needs
+
+cast-left-2 : tie.Need-cast-left-2 Inv-loop μ-loop
+cast-left-2 c = let a = c .before .before .before .before .before .before .before .before .before .before .before .before .args in omega (arith, c .shared-slice-known9 .given (getD (a .places .now) (a .v) 0 % 1024))
+
+loop-holds : tie.Need-loop-holds Inv-loop μ-loop
+unfolding entry-in stop-at
+loop-holds c =
+    let z = c .before .before .before .before .before .before .before .before .before .before .before .before in
+    let a = z .args in
+    let v : Entry = entry-in (a .numbers .now) (a .times .now) (a .places .now) (a .v) in
+    let left : ℕ = getD (a .heads .now) (getD (a .places .now) (a .v) 0 % 1024) 0 in
+    let (l, r, w) = walk-begins (a .numbers .now) (a .times .now) (a .places .now) (a .heads .now) (a .nexts .now) (a .n) (z .pre .1 .0 .5) v left refl in (
+      l,
+      r,
+      write-first (later-bounds v 0 (row-in (a .numbers .now) (a .times .now) (a .places .now) (a .n) 0))
+          (later-bounds v 0 (row-in (a .numbers .now) (a .times .now) (a .places .now) left (a .n - left))) (a .k) (a .ends .now) (a .ranges .now) w,
+    )
+
+sub-u : tie.Need-sub-u Inv-loop μ-loop
+sub-u c = search needs
+
+shared-slice-read-i : tie.Need-shared-slice-read-i Inv-loop μ-loop
+shared-slice-read-i c = search needs
+
+entry-event-requires-2 : tie.Need-entry-event-requires-2 Inv-loop μ-loop
+entry-event-requires-2 c κs =
+    let l = c .before .before in
+    let z = l .before .before .before .before .before .before .before .before .before .before .before .before .before in
+    (omega arith, z .pre .0 .2 (z .args .n - l .loop .left) (omega arith))
+
+sub-to : tie.Need-sub-to Inv-loop μ-loop
+sub-to c =
+    let l = c .before .before .before in
+    let z = l .before .before .before .before .before .before .before .before .before .before .before .before .before in
+    omega (arith, c .entry-event2 .ensures, z .pre .0 .2 (z .args .n - l .loop .left) (omega arith))
+
+mul-is-counted : tie.Need-mul-is-counted Inv-loop μ-loop
+mul-is-counted c = search needs
+
+shared-slice-read-is-counted : tie.Need-shared-slice-read-is-counted Inv-loop μ-loop
+shared-slice-read-is-counted c = search needs
+
+mul-is-counted-2 : tie.Need-mul-is-counted-2 Inv-loop μ-loop
+mul-is-counted-2 c = search needs
+
+shared-slice-read-is-counted-2 : tie.Need-shared-slice-read-is-counted-2 Inv-loop μ-loop
+shared-slice-read-is-counted-2 c = search needs
+
+is-counted-requires : tie.Need-is-counted-requires Inv-loop μ-loop
+is-counted-requires c κs = search needs
+
+-- where the visit at hand counts there is room for its bound
+room : (c : tie.Then1 Inv-loop μ-loop)
+    → (2 * c .before .before .before .before .before .before .before .loop .m + 2 ≤ length (c .before .before .before .before .before .before .before .loop .ends)) × (2 * c .before .before .before .before .before .before .before .loop .m + 2 ≤ length (c .before .before .before .before .before .before .before .loop .ranges))
+unfolding entry-in stop-at
+room c =
+    let q = c .before .before .before .before .before .before in
+    let l = q .before in
+    let z = l .before .before .before .before .before .before .before .before .before .before .before .before .before in
+    let a = z .args in
+    let v : Entry = entry-in (a .numbers .now) (a .times .now) (a .places .now) (a .v) in
+    let next : ℕ = getD (a .nexts .now) (a .n - l .loop .left) 0 in
+    let t : 0 < l .loop .left = q .loop-test .taken in
+    let f = c .before in
+    let e : f .is-counted .result ≡ counts (v .visit) (l .loop .last) (stop-at (a .numbers .now) (a .times .now) (a .places .now) (a .n - l .loop .left)) = f .is-counted .ensures in
+    let rest : List Bound = later-bounds v (getD (a .numbers .now) (a .n - l .loop .left) 0) (row-in (a .numbers .now) (a .times .now) (a .places .now) next (a .n - next)) in
+    room-one (later-bounds v 0 (row-in (a .numbers .now) (a .times .now) (a .places .now) (a .n) 0)) (a .k) (a .ends .now) (a .ranges .now)
+    (later-bounds v (l .loop .last) (row-in (a .numbers .now) (a .times .now) (a .places .now) (l .loop .left) (a .n - l .loop .left))) (l .loop .m) (l .loop .ends) (l .loop .ranges) (l .loop .inv .2)
+    (no-earlier (v .event + 1) (3 * (a .n - l .loop .left) + 3 - 2 * getD (a .numbers .now) (a .n - l .loop .left) 0 - 1)) rest
+    (walk-counts (a .numbers .now) (a .times .now) (a .places .now) (a .heads .now) (a .nexts .now) (a .n) (z .pre .1 .0 .5) v (l .loop .left) t (l .loop .inv .0) (l .loop .inv .1 t) next refl (l .loop .last) (sym e ∙ c .if1 .taken)) (z .pre .1 .1 .0) (z .pre .1 .1 .1)
+
+put-bound-requires : tie.Need-put-bound-requires Inv-loop μ-loop
+put-bound-requires c κs = room (c .before .before)
+
+add-m : tie.Need-add-m Inv-loop μ-loop
+add-m c =
+    let l = c .before .before .before .before .before .before .before .before .before .before .before .before .before .before in
+    let long : length (l .loop .ends) ≡ length (l .before .before .before .before .before .before .before .before .before .before .before .before .before .args .ends .now) = l .loop .inv .2 .ends-long in
+    omega (arith, room (c .before .before .before .before .before .before .before), l .before .before .before .before .before .before .before .before .before .before .before .before .before .good .1 .1 .1 .1 .1 .1 .1 .1 .0 .0)
+
+mul-left-2 : tie.Need-mul-left-2 Inv-loop μ-loop
+mul-left-2 c = search needs
+
+shared-slice-read-left-2 : tie.Need-shared-slice-read-left-2 Inv-loop μ-loop
+shared-slice-read-left-2 c = search needs
+
+cast-left-3 : tie.Need-cast-left-3 Inv-loop μ-loop
+cast-left-3 c =
+    let l = c .before .before .before .before .before .before .before .before in
+    omega (arith, c .shared-slice-known13 .given (l .before .before .before .before .before .before .before .before .before .before .before .before .before .args .n - l .loop .left))
+
+loop-less : tie.Need-loop-less Inv-loop μ-loop
+unfolding entry-in stop-at
+loop-less c =
+    let q = c .before .before .before .before .before .before .before in
+    let l = q .before in
+    let z = l .before .before .before .before .before .before .before .before .before .before .before .before .before in
+    let a = z .args in
+    let v : Entry = entry-in (a .numbers .now) (a .times .now) (a .places .now) (a .v) in
+    let next : ℕ = getD (a .nexts .now) (a .n - l .loop .left) 0 in
+    let t : 0 < l .loop .left = q .loop-test .taken in
+    walk-goes (a .numbers .now) (a .times .now) (a .places .now) (a .heads .now) (a .nexts .now) (a .n) (z .pre .1 .0 .5) v (l .loop .left) t (l .loop .inv .0) (l .loop .inv .1 t) next refl .0
+
+loop-again : tie.Need-loop-again Inv-loop μ-loop
+unfolding entry-in entry-at stop-at
+loop-again c =
+    let f = c .before .before in
+    let g = f .before .before .before in
+    let q = g .before .before in
+    let l = q .before in
+    let z = l .before .before .before .before .before .before .before .before .before .before .before .before .before in
+    let a = z .args in
+    let v : Entry = entry-in (a .numbers .now) (a .times .now) (a .places .now) (a .v) in
+    let next : ℕ = getD (a .nexts .now) (a .n - l .loop .left) 0 in
+    let t : 0 < l .loop .left = q .loop-test .taken in
+    let u : ℕ = a .n - l .loop .left in
+    let rest : ℕ → List Bound = λ k. later-bounds v k (row-in (a .numbers .now) (a .times .now) (a .places .now) next (a .n - next)) in
+    let e : f .is-counted .result ≡ counts (v .visit) (l .loop .last) (stop-at (a .numbers .now) (a .times .now) (a .places .now) u) = f .is-counted .ensures in
+    let from : l .before .before .entry-event .result ≡ 3 * a .v + 3 - 2 * getD (a .numbers .now) (a .v) 0 = l .before .before .entry-event .ensures in
+    let to : g .entry-event2 .result ≡ 3 * u + 3 - 2 * getD (a .numbers .now) u 0 = g .entry-event2 .ensures in
+    let (less, same) = walk-goes (a .numbers .now) (a .times .now) (a .places .now) (a .heads .now) (a .nexts .now) (a .n) (z .pre .1 .0 .5) v (l .loop .left) t (l .loop .inv .0) (l .loop .inv .1 t) next refl in
+    ⊎-elim
+    (λ w. (
+      omega (arith, less),
+      same,
+      write-one (later-bounds v 0 (row-in (a .numbers .now) (a .times .now) (a .places .now) (a .n) 0)) (a .k) (a .ends .now) (a .ranges .now)
+          (later-bounds v (l .loop .last) (row-in (a .numbers .now) (a .times .now) (a .places .now) (l .loop .left) (a .n - l .loop .left))) (l .loop .m) (l .loop .ends) (l .loop .ranges) (l .loop .inv .2)
+          (v .event + 1) (3 * u + 3 - 2 * getD (a .numbers .now) u 0 - 1) (l .before .before .entry-event .result + 1) (g .entry-event2 .result - 1) (rest (c .before .if1 .last))
+          (walk-counts (a .numbers .now) (a .times .now) (a .places .now) (a .heads .now) (a .nexts .now) (a .n) (z .pre .1 .0 .5) v (l .loop .left) t (l .loop .inv .0) (l .loop .inv .1 t) next refl (l .loop .last) (sym e ∙ w .0 .taken) ∙ ap (λ (k : ℕ). no-earlier (v .event + 1) (3 * u + 3 - 2 * getD (a .numbers .now) u 0 - 1) ∷ rest k) (sym (w .10)))
+          (ap (λ (x : ℕ). x + 1) from) (ap (λ (x : ℕ). x - 1) to) (c .before .if1 .m) (c .before .if1 .ends) (c .before .if1 .ranges)
+          (w .11) (w .8 ∙ w .3 .ensures .0) (w .9 ∙ w .3 .ensures .1),
+    ))
+    (λ w. (
+      omega (arith, less),
+      same,
+      write-none (later-bounds v 0 (row-in (a .numbers .now) (a .times .now) (a .places .now) (a .n) 0)) (a .k) (a .ends .now) (a .ranges .now)
+          (later-bounds v (l .loop .last) (row-in (a .numbers .now) (a .times .now) (a .places .now) (l .loop .left) (a .n - l .loop .left))) (l .loop .m) (l .loop .ends) (l .loop .ranges) (l .loop .inv .2)
+          (rest (c .before .if1 .last))
+          (walk-passes (a .numbers .now) (a .times .now) (a .places .now) (a .heads .now) (a .nexts .now) (a .n) (z .pre .1 .0 .5) v (l .loop .left) t (l .loop .inv .0) (l .loop .inv .1 t) next refl (l .loop .last) (sym e ∙ w .0 .left) ∙ ap rest (sym (w .3)))
+          (c .before .if1 .m) (c .before .if1 .ends) (c .before .if1 .ranges) (w .4) (w .1) (w .2),
+    ))
+    (c .before .if1 .came)
+
+same-length : tie.Need-same-length Inv-loop μ-loop
+same-length c = search needs
+
+same-length-2 : tie.Need-same-length-2 Inv-loop μ-loop
+same-length-2 c = search needs
+
+returns : tie.Need-returns Inv-loop μ-loop
+unfolding later-bounds row-in placed stops-in
+returns c =
+    let l = c .before in
+    let a = l .before .before .before .before .before .before .before .before .before .before .before .before .before .args in
+    let v : Entry = entry-in (a .numbers .now) (a .times .now) (a .places .now) (a .v) in
+    let none : l .loop .left ≡ 0 = omega arith in
+    written-all (later-bounds v 0 (row-in (a .numbers .now) (a .times .now) (a .places .now) (a .n) 0)) (a .k) (a .ends .now) (a .ranges .now)
+    (later-bounds v (l .loop .last) (row-in (a .numbers .now) (a .times .now) (a .places .now) (l .loop .left) (a .n - l .loop .left))) (l .loop .m) (l .loop .ends) (l .loop .ranges) (l .loop .inv .2)
+    (ap (λ (m : ℕ). later-bounds v (l .loop .last) (row-in (a .numbers .now) (a .times .now) (a .places .now) m (a .n - m))) none)
+
+pub put-later-spec : {M : Type 1} → statement M
+put-later-spec =
+    tie.close
+    (tie.spec
+    Inv-loop
+    μ-loop
+    shared-slice-read-j
+    mul-t
+    shared-slice-read-t
+    mul-c
+    shared-slice-read-c
+    entry-event-requires
+    add-from
+    cast-left
+    mul-left
+    shared-slice-read-left
+    cast-left-2
+    loop-holds
+    sub-u
+    shared-slice-read-i
+    entry-event-requires-2
+    sub-to
+    mul-is-counted
+    shared-slice-read-is-counted
+    mul-is-counted-2
+    shared-slice-read-is-counted-2
+    is-counted-requires
+    put-bound-requires
+    add-m
+    mul-left-2
+    shared-slice-read-left-2
+    cast-left-3
+    loop-less
+    loop-again
+    same-length
+    same-length-2
+    returns)

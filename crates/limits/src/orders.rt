@@ -1,0 +1,134 @@
+// The order bounds of paths, written to two arrays. The visits of all carts stand in a row and are linked, as they are counted.
+use crate::count;
+ghost use mathlib.Core.Path.{_≡_};
+ghost use mathlib.Core.List.{flatMap};
+ghost use Prim.Native.Nat.{ℕ, _+_, _*_, _-_, _≤_, _<_};
+ghost use lib.ListN.{length, getD};
+ghost use lib.Seq.{sets};
+ghost use Rattle.words.specs.Words.{written};
+ghost use Rattle.tables.specs.Arrays.{paths-in};
+ghost use Rattle.network.specs.Events.{routes-of};
+ghost use Rattle.network.specs.Bounds.{no-earlier, order-bounds};
+ghost use Rattle.network.specs.BoundArrays.{bound-ends, bound-range};
+ghost use Rattle.limits.specs.Limits.{of-paths};
+ghost use Rattle.limits.specs.Counts.{total, moves, Linked};
+ghost use Rattle.limits.specs.Row.{row-bounds, row-in, bounds-from};
+
+// The entry event of visit u, one of cart j. From a cart's visit to its next are three events, from its last to the next cart's first one.
+fn entry_event(u: usize, j: u8) -> u16
+    requires { ⌜ (u < 1408) × (j ≤ u + 1) ⌝ }
+    ensures { λ r. ⌜ r ≡ 3 * u + 3 - 2 * j ⌝ }
+{
+    (3 * u + 3 - 2 * (j as usize)) as u16
+}
+
+// Writes bound number k: [0, none] from one event to another.
+fn put_bound(ends: &mut [u16], ranges: &mut [u64], k: usize, from: u16, to: u16)
+    requires { ⌜ (2 * k + 2 ≤ length (now ends)) × (2 * k + 2 ≤ length (now ranges)) ⌝ }
+    ensures { λ _. ⌜ now (ends .exit) ≡ sets (now (ends .entry)) (2 * k) (bound-ends (no-earlier from to)) ⌝ }
+    ensures { λ _. ⌜ now (ranges .exit) ≡ sets (now (ranges .entry)) (2 * k) (bound-range (no-earlier from to)) ⌝ }
+{
+    let at = 2 * k;
+    ends[at] = from;
+    ends[at + 1] = to;
+    ranges[at] = 0;
+    ranges[at + 1] = 0;
+}
+
+// Writes the bounds from visit v, the first of them number k; returns the number after them. The visits of its remainder are gone through.
+fn put_later(
+    numbers: &[u8],
+    times: &[u16],
+    places: &[u32],
+    heads: &[u16],
+    nexts: &[u16],
+    n: usize,
+    v: usize,
+    k: usize,
+    ends: &mut [u16],
+    ranges: &mut [u64],
+) -> usize
+    requires { ⌜ (n ≤ 1408) × (v < n) × ((u : ℕ) → u < n → getD (now numbers) u 0 ≤ u + 1) ⌝ }
+    requires { ⌜ (length (now numbers) ≡ 1408) × (length (now times) ≡ 1408) × (length (now places) ≡ 1408) × (length (now heads) ≡ 1024) × (length (now nexts) ≡ 1408) × Linked (now places) (now heads) (now nexts) n n ⌝ }
+    requires { ⌜ (2 * (k + length (bounds-from (now numbers) (now times) (now places) n v)) ≤ length (now ends)) × (2 * (k + length (bounds-from (now numbers) (now times) (now places) n v)) ≤ length (now ranges)) ⌝ }
+    ensures { λ r. ⌜ r ≡ k + length (bounds-from (now (numbers .entry)) (now (times .entry)) (now (places .entry)) n v) ⌝ }
+    ensures { λ _. ⌜ now (ends .exit) ≡ sets (now (ends .entry)) (2 * k) (flatMap bound-ends (bounds-from (now (numbers .entry)) (now (times .entry)) (now (places .entry)) n v)) ⌝ }
+    ensures { λ _. ⌜ now (ranges .exit) ≡ sets (now (ranges .entry)) (2 * k) (flatMap bound-range (bounds-from (now (numbers .entry)) (now (times .entry)) (now (places .entry)) n v)) ⌝ }
+{
+    let j = numbers[v];
+    let t = times[v];
+    let c = places[v];
+    let from = entry_event(v, j) + 1;
+    let mut last: u8 = 0;
+    let mut m = k;
+    let mut left = heads[(c % 1024) as usize] as usize;
+    while 0 < left {
+        let u = n - left;
+        let i = numbers[u];
+        let to = entry_event(u, i) - 1;
+        if count::is_counted(j, t, c, last, i, times[u], places[u]) {
+            put_bound(ends, ranges, m, from, to);
+            m += 1;
+            last = i;
+        }
+        left = nexts[u] as usize;
+    }
+    m
+}
+
+// Writes the order bounds among n visits; returns how many there are.
+fn put_orders(
+    numbers: &[u8],
+    times: &[u16],
+    places: &[u32],
+    heads: &[u16],
+    nexts: &[u16],
+    n: usize,
+    ends: &mut [u16],
+    ranges: &mut [u64],
+) -> usize
+    requires { ⌜ (n ≤ 1408) × ((u : ℕ) → u < n → getD (now numbers) u 0 ≤ u + 1) ⌝ }
+    requires { ⌜ (length (now numbers) ≡ 1408) × (length (now times) ≡ 1408) × (length (now places) ≡ 1408) ⌝ }
+    requires { ⌜ (length (now heads) ≡ 1024) × (length (now nexts) ≡ 1408) × Linked (now places) (now heads) (now nexts) n n ⌝ }
+    requires { ⌜ 2 * length (row-bounds (row-in (now numbers) (now times) (now places) n 0)) ≤ length (now ends) ⌝ }
+    requires { ⌜ 2 * length (row-bounds (row-in (now numbers) (now times) (now places) n 0)) ≤ length (now ranges) ⌝ }
+    ensures { λ r. ⌜ r ≡ length (row-bounds (row-in (now (numbers .entry)) (now (times .entry)) (now (places .entry)) n 0)) ⌝ }
+    ensures { λ _. ⌜ now (ends .exit) ≡ sets (now (ends .entry)) 0 (flatMap bound-ends (row-bounds (row-in (now (numbers .entry)) (now (times .entry)) (now (places .entry)) n 0))) ⌝ }
+    ensures { λ _. ⌜ now (ranges .exit) ≡ sets (now (ranges .entry)) 0 (flatMap bound-range (row-bounds (row-in (now (numbers .entry)) (now (times .entry)) (now (places .entry)) n 0))) ⌝ }
+{
+    let mut k: usize = 0;
+    let mut v: usize = 0;
+    while v + 1 < n {
+        if numbers[v] == numbers[v + 1] {
+            k = put_later(numbers, times, places, heads, nexts, n, v, k, ends, ranges);
+        }
+        v += 1;
+    }
+    k
+}
+
+// Writes the order bounds of all paths; returns how many there are.
+pub(crate) fn write_orders(
+    cells: &[u32],
+    carts: usize,
+    steps: usize,
+    ends: &mut [u16],
+    ranges: &mut [u64],
+) -> usize
+    requires { ⌜ (carts ≤ 64) × (1 ≤ steps) × (steps ≤ 1024) × (carts * steps ≤ length (now cells)) ⌝ }
+    requires { ⌜ carts + total moves (paths-in carts steps (now cells)) ≤ 1408 ⌝ }
+    requires { ⌜ 2 * length (order-bounds (routes-of (of-paths (paths-in carts steps (now cells))))) ≤ length (now ends) ⌝ }
+    requires { ⌜ 2 * length (order-bounds (routes-of (of-paths (paths-in carts steps (now cells))))) ≤ length (now ranges) ⌝ }
+    ensures { λ r. ⌜ r ≡ length (order-bounds (routes-of (of-paths (paths-in carts steps (now (cells .entry)))))) ⌝ }
+    ensures { λ _. ⌜ now (ends .exit) ≡ written (flatMap bound-ends (order-bounds (routes-of (of-paths (paths-in carts steps (now (cells .entry))))))) (now (ends .entry)) ⌝ }
+    ensures { λ _. ⌜ now (ranges .exit) ≡ written (flatMap bound-range (order-bounds (routes-of (of-paths (paths-in carts steps (now (cells .entry))))))) (now (ranges .entry)) ⌝ }
+{
+    let mut numbers: [u8; 1408] = [0; 1408];
+    let mut times: [u16; 1408] = [0; 1408];
+    let mut places: [u32; 1408] = [0; 1408];
+    let n = count::put_all(cells, carts, steps, &mut numbers, &mut times, &mut places);
+    let mut heads: [u16; 1024] = [0; 1024];
+    let mut nexts: [u16; 1408] = [0; 1408];
+    count::link(&places, n, &mut heads, &mut nexts);
+    put_orders(&numbers, &times, &places, &heads, &nexts, n, ends, ranges)
+}
