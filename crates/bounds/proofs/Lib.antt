@@ -1,0 +1,5 @@
+pub mod Stores
+pub mod Parts
+pub mod Moves
+pub mod Whole
+pub mod Fits

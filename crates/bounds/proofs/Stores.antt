@@ -1,0 +1,89 @@
+-- Bounds stored in an array, one after the other: two numbers each. Assumes nothing.
+use Prim.Native.Nat.{ℕ, _+_, _*_, _-_, _≤_, _<_}
+use native.Mathlib.Nat.{add-zero, sub-zero}
+use native.Mathlib.Numerals.{add-one}
+use native.Mathlib.Omega.{arith}
+use mathlib.Core.Path.{_≡_, refl, ap, sym, _∙_}
+use mathlib.Core.List.{List, [], _∷_, _++_, map, flatMap, append-assoc, append-nil}
+use lib.ListN.{length, take, drop, getD, set, length-drop, drop-of-length-le}
+use lib.Seq.{sets, sets-eq, drop-drop}
+use borrow.Rule.Slice.PartMut.{midOf, putMid}
+use Rattle.csv.proofs.Reading.{rest-is}
+use Rattle.words.specs.Words.{written}
+use Rattle.limits.proofs.OrderSteps.{flat-sets}
+use Rattle.limits.proofs.CountSteps.{steps-from, steps-cons, steps-none}
+use Rattle.network.specs.Bounds.{Bound}
+
+-- two numbers stored
+pub two-stored : (s : List ℕ) (i a b : ℕ) → set (set s i a) (i + 1) b ≡ sets s i (a ∷ b ∷ [])
+two-stored s i a b = ap (λ (n : ℕ). set (set s i a) n b) (add-one i)
+
+-- numbers of a bound: two
+abbrev pub Pairs : (Bound → List ℕ) → Type 0
+Pairs g = (b : Bound) → length (g b) ≡ 2
+
+module _ (g : Bound → List ℕ) (p : Pairs g) where
+  -- bounds stored behind others
+  pub more-stored : (s t : List ℕ) (k j : ℕ) (xs ys : List Bound) → j ≡ k + length xs → t ≡ sets s (2 * k) (flatMap g xs)
+      → sets t (2 * j) (flatMap g ys) ≡ sets s (2 * k) (flatMap g (xs ++ ys))
+  more-stored s t k j xs ys e q = ap (λ (x : List ℕ). sets x (2 * j) (flatMap g ys)) q ∙ flat-sets g p xs ys s k j e
+
+  -- behind one
+  pub one-stored : (s t : List ℕ) (k : ℕ) (b : Bound) (ys : List Bound) → t ≡ sets s (2 * k) (g b)
+      → sets t (2 * (k + 1)) (flatMap g ys) ≡ sets s (2 * k) (flatMap g (b ∷ ys))
+  unfolding flatMap
+  one-stored s t k b ys q = more-stored s t k (k + 1) (b ∷ []) ys refl (q ∙ ap (λ (l : List ℕ). sets s (2 * k) l) (sym (append-nil (g b))))
+
+  -- three
+  pub three-stored : (s t u v : List ℕ) (k : ℕ) (a b c : Bound) → t ≡ sets s (2 * k) (g a) → u ≡ sets t (2 * (k + 1)) (g b) → v ≡ sets u (2 * (k + 2)) (g c)
+      → v ≡ sets s (2 * k) (flatMap g (a ∷ b ∷ c ∷ []))
+  unfolding flatMap
+  three-stored s t u v k a b c x y z =
+      let third : 2 * (k + 2) ≡ 2 * (k + 1 + 1) = omega arith in
+      z ∙ ap (λ (l : List ℕ). sets u (2 * (k + 2)) l) (sym (append-nil (g c)))
+      ∙ ap (λ (n : ℕ). sets u n (flatMap g (c ∷ []))) third
+      ∙ one-stored t u (k + 1) b (c ∷ []) y
+      ∙ one-stored s t k a (b ∷ c ∷ []) x
+
+-- none
+pub none-stored : (g : Bound → List ℕ) (s : List ℕ) (k : ℕ) (bs : List Bound) → bs ≡ [] → s ≡ sets s k (flatMap g bs)
+unfolding flatMap
+none-stored g s k bs e = ap (λ (l : List Bound). sets s k (flatMap g l)) (sym e)
+
+-- ---- a bound for each number of a row
+
+module _ (g : Bound → List ℕ) (p : Pairs g) (f : ℕ → Bound) (s : List ℕ) (at n k : ℕ) where
+  -- none is stored yet
+  pub row-first : (t : List ℕ) → sets t (2 * (k + 0)) (flatMap g (map f (steps-from s at n 0))) ≡ sets t (2 * k) (flatMap g (map f (take n (drop at s))))
+  row-first t =
+      let first : 2 * (k + 0) ≡ 2 * k = omega arith in
+      ap (λ (i : ℕ). sets t i (flatMap g (map f (steps-from s at n 0)))) first
+      ∙ ap (λ (i : ℕ). sets t (2 * k) (flatMap g (map f (take (n - 0) (drop i s))))) (add-zero at)
+      ∙ ap (λ (i : ℕ). sets t (2 * k) (flatMap g (map f (take i (drop at s))))) (sub-zero n)
+
+  -- one more
+  pub row-next : at + n ≤ length s → (t u : List ℕ) (i j : ℕ) → i < n → j ≡ at + i → u ≡ sets t (2 * (k + i)) (g (f (getD s j 0)))
+      → sets u (2 * (k + (i + 1))) (flatMap g (map f (steps-from s at n (i + 1)))) ≡ sets t (2 * (k + i)) (flatMap g (map f (steps-from s at n i)))
+  row-next fits t u i j l e q =
+      let next : 2 * (k + (i + 1)) ≡ 2 * (k + i + 1) = omega arith in
+      let rest : List Bound = map f (steps-from s at n (i + 1)) in
+      ap (λ (m : ℕ). sets u m (flatMap g rest)) next
+      ∙ one-stored g p t u (k + i) (f (getD s j 0)) rest q
+      ∙ ap (λ (m : ℕ). sets t (2 * (k + i)) (flatMap g (f (getD s m 0) ∷ rest))) e
+      ∙ ap (λ (r : List ℕ). sets t (2 * (k + i)) (flatMap g (map f r))) (sym (steps-cons s at n fits i l))
+
+  -- all are
+  pub row-last : at + n ≤ length s → (t : List ℕ) (i : ℕ) → n ≤ i → t ≡ sets t (2 * (k + i)) (flatMap g (map f (steps-from s at n i)))
+  row-last fits t i l = none-stored g t (2 * (k + i)) (map f (steps-from s at n i)) (ap (map f) (steps-none s at n fits i l))
+
+-- ---- into the part of a slice from a place on
+
+-- what is written over the front of that part is stored from there on
+pub part-stored : (vs s t : List ℕ) (m : ℕ) → m + length vs ≤ length s → t ≡ written vs (midOf m (length s - m) s) → putMid m (length s - m) s t ≡ sets s m vs
+unfolding written
+part-stored vs s t m h q =
+    let none : drop (length s - m) (drop m s) ≡ [] = drop-of-length-le (drop m s) {i = length s - m} (omega (arith, length-drop m s)) in
+    ap (λ (x : List ℕ). take m s ++ (t ++ x)) none ∙ ap (λ (x : List ℕ). take m s ++ x) (append-nil t)
+    ∙ ap (λ (x : List ℕ). take m s ++ x) (q ∙ ap (λ (x : List ℕ). vs ++ drop (length vs) x) (rest-is s m) ∙ ap (λ (x : List ℕ). vs ++ x) (drop-drop (length vs) m s))
+    ∙ sym (append-assoc (take m s) vs (drop (m + length vs) s))
+    ∙ sym (sets-eq vs s m h)

@@ -1,0 +1,294 @@
+-- The bounds of a plan in arrays: start, travel, order and finish bounds, one behind the other, and what is answered. Assumes nothing.
+use Prim.Native.Nat.{ℕ, zero, suc, _+_, _*_, _-_, _≤_, _<_}
+use native.Mathlib.Nat.{min-le-right}
+use native.Mathlib.Numerals.{add-one}
+use native.Mathlib.Omega.{arith}
+use mathlib.Core.Path.{_≡_, refl, ap, ap₂, sym, _∙_, subst}
+use mathlib.Core.Bool.{Bool, true, false, _&&_, cond}
+use mathlib.Core.List.{List, [], _∷_, _++_, map, flatMap}
+use mathlib.Core.Option.{none, some}
+use lib.Dec.{T, leb}
+use lib.ListN.{length, take, drop, getD, length-take, length-drop}
+use lib.Seq.{sets, take-nil, take-take, getD-take}
+use borrow.Rule.Slice.PartMut.{midOf, putMid}
+use borrow.Author.Tests.{leb-true, le-leb}
+use Rattle.words.specs.Words.{written}
+use Rattle.words.proofs.Reading.{written-front}
+use Rattle.csv.proofs.Reading.{rest-is}
+use Rattle.floor.specs.Plan.{Cart, Plan}
+use Rattle.tables.specs.Arrays.{roads-in, carts-in, paths-in}
+use Rattle.tables.proofs.CartRecords.{carts-in-length}
+use Rattle.tables.proofs.PathRecords.{paths-in-length}
+use Rattle.network.specs.Events.{route-points, routes, routes-of, event-count, last-event, finish-event}
+use Rattle.network.specs.Bounds.{Bound, start-bounds, travel-bounds, order-bounds, no-earlier, finish-bounds, bounds}
+use Rattle.limits.specs.Limits.{of-paths, limits-kept, paths-within}
+use Rattle.limits.specs.Counts.{total, moves}
+use Rattle.limits.specs.Orders.{first-events, events-fit, firsts-fitting, orders-fitting}
+use Rattle.limits.proofs.Counts.{path-points, events-are, route-count, travels-count, start-count, bounds-are, limits-by-paths}
+use Rattle.limits.proofs.LimitSteps.{all-events}
+use Rattle.limits.proofs.Firsts.{firsts-from, first-events-are, firsts-count, sets-written}
+use Rattle.limits.proofs.RowBounds.{of-paths-carts, orders-by-paths, order-count-is}
+use Rattle.bounds.specs.declared.Network.{Network}
+use Rattle.bounds.specs.Network.{Numbers, plan-in, network-answer}
+use Rattle.bounds.specs.Writing.{start-to, finish-before}
+use Rattle.limits.proofs.OrderSteps.{flat-length}
+use Rattle.bounds.proofs.Stores.{Pairs, more-stored, part-stored}
+
+-- ---- by first events
+
+-- the start bounds
+starts-by : (cs : List Cart) (ps : List (List ℕ)) (j e : ℕ) → length cs ≡ length ps → map start-to (take (length ps) (firsts-from e ps)) ≡ start-bounds (routes j e cs ps)
+unfolding start-bounds routes start-to
+starts-by [] [] j e h = refl
+starts-by [] (p ∷ ps) j e h = absurd (omega arith)
+starts-by (c ∷ cs) [] j e h = absurd (omega arith)
+starts-by (c ∷ cs) (p ∷ ps) j e h = ap (λ (l : List Bound). start-to e ∷ l) (starts-by cs ps (suc j) (e + path-points p) (omega arith))
+
+-- the finish bounds: a cart's last event stands before the next cart's first, or the finish
+finishes-by : (f : ℕ) (cs : List Cart) (ps : List (List ℕ)) (j e : ℕ) → length cs ≡ length ps
+    → map (finish-before f) (take (length ps) (drop 1 (firsts-from e ps))) ≡ finish-bounds f (routes j e cs ps)
+unfolding finish-bounds routes finish-before last-event route-points
+finishes-by f [] [] j e h = refl
+finishes-by f [] (p ∷ ps) j e h = absurd (omega arith)
+finishes-by f (c ∷ cs) [] j e h = absurd (omega arith)
+finishes-by f (c ∷ cs) (p ∷ ps) j e h =
+    by (firsts-from (e + path-points p) ps) ps refl (head-is ps) (finishes-by f cs ps (suc j) (e + path-points p) (omega arith))
+  where
+    head-is : (qs : List (List ℕ)) → firsts-from (e + path-points p) qs ≡ (e + path-points p) ∷ drop 1 (firsts-from (e + path-points p) qs)
+    head-is [] = refl
+    head-is (q ∷ qs) = refl
+
+    by : (l : List ℕ) (qs : List (List ℕ)) → l ≡ firsts-from (e + path-points p) ps → l ≡ (e + path-points p) ∷ drop 1 l
+        → map (finish-before f) (take (length qs) (drop 1 (firsts-from (e + path-points p) ps))) ≡ finish-bounds f (routes (suc j) (e + path-points p) cs ps)
+        → map (finish-before f) (take (suc (length qs)) l) ≡ no-earlier (e + path-points p - 1) f ∷ finish-bounds f (routes (suc j) (e + path-points p) cs ps)
+    by l qs q w rest =
+        ap (λ (x : List ℕ). map (finish-before f) (take (suc (length qs)) x)) w
+        ∙ ap (λ (x : List ℕ). finish-before f (e + path-points p) ∷ map (finish-before f) (take (length qs) (drop 1 x))) q
+        ∙ ap (λ (x : List Bound). finish-before f (e + path-points p) ∷ x) rest
+
+-- the last of them is the finish's
+finish-last : (ps : List (List ℕ)) (e : ℕ) → getD (firsts-from e ps) (length ps) 0 ≡ e + total path-points ps
+unfolding total
+finish-last [] e = omega arith
+finish-last (p ∷ ps) e = finish-last ps (e + path-points p) ∙ omega arith
+
+-- none is 0
+firsts-some : (ps : List (List ℕ)) (e i : ℕ) → 0 < e → i ≤ length ps → 0 < getD (firsts-from e ps) i 0
+firsts-some [] e zero h l = h
+firsts-some [] e (suc i) h l = absurd (omega arith)
+firsts-some (p ∷ ps) e zero h l = h
+firsts-some (p ∷ ps) e (suc i) h l = firsts-some ps (e + path-points p) i (omega arith) (omega arith)
+
+-- ---- what fits
+
+-- two tests that pass
+both : (a b : Bool) → (a && b) ≡ true → (a ≡ true) × (b ≡ true)
+both true b e = (refl, e)
+both false b e = absurd (subst T (sym e) tt)
+
+-- paths within the limits
+pub within-says : (n w : ℕ) (s : List ℕ) → paths-within n w s ≡ true
+    → (n ≤ 64) × (w ≤ 1024) × (n * w ≤ length s) × (limits-kept (of-paths (paths-in n w s)) ≡ true)
+unfolding paths-within
+within-says n w s e =
+    let kept : Bool = limits-kept (of-paths (paths-in n w s)) in
+    let (x, k) = both (leb n 64 && leb w 1024 && leb (n * w) (length s)) kept e in
+    let (y, there) = both (leb n 64 && leb w 1024) (leb (n * w) (length s)) x in
+    let (carts, steps) = both (leb n 64) (leb w 1024) y in
+    (leb-true n 64 carts, leb-true w 1024 steps, leb-true (n * w) (length s) there, k)
+
+-- limits that are kept
+kept-says : (p : Plan) → limits-kept p ≡ true → (event-count p ≤ 4096) × (length (bounds p) ≤ 8192)
+unfolding limits-kept
+kept-says p e =
+    let (x, y) = both (leb (event-count p) 4096) (leb (length (bounds p)) 8192) e in
+    (leb-true (event-count p) 4096 x, leb-true (length (bounds p)) 8192 y)
+
+-- the first of a list without its head
+drop-take : (n : ℕ) (l : List ℕ) → drop 1 (take (suc n) l) ≡ take n (drop 1 l)
+drop-take n [] = sym (take-nil n)
+drop-take n (x ∷ xs) = refl
+
+module _ (roads carts w : ℕ) (a : Numbers) where
+  -- the plan's paths
+  abbrev paths : List (List ℕ)
+  paths = paths-in carts w (a .cells)
+
+  -- one for each cart
+  even : length (plan-in roads carts w a .carts) ≡ length (plan-in roads carts w a .paths)
+  unfolding plan-in
+  even = carts-in-length carts (a .speeds) ∙ sym (paths-in-length carts w (a .cells))
+
+  -- its order bounds go by the paths alone
+  orders-are : order-bounds (routes-of (of-paths paths)) ≡ order-bounds (routes-of (plan-in roads carts w a))
+  unfolding plan-in
+  orders-are = sym (orders-by-paths (plan-in roads carts w a) even)
+
+  -- its routes
+  routes-are : routes-of (plan-in roads carts w a) ≡ routes 1 1 (carts-in carts (a .speeds)) paths
+  unfolding plan-in routes-of
+  routes-are = refl
+
+  -- how many bounds it has
+  pub bounds-count : length (bounds (plan-in roads carts w a)) ≡ carts + 3 * total moves paths + length (order-bounds (routes-of (of-paths paths))) + carts
+  unfolding plan-in
+  bounds-count =
+      let p : Plan = plan-in roads carts w a in
+      omega (arith, bounds-are p even, order-count-is p even, ap (λ (os : List Bound). length os) orders-are, paths-in-length carts w (a .cells))
+
+  module _ (within : paths-within carts w (a .cells) ≡ true) (o : 1 ≤ w) where
+    -- sizes: carts, steps, cells, events and bounds
+    pub sizes : (carts ≤ 64) × (w ≤ 1024) × (carts * w ≤ length (a .cells)) × (1 + carts + 3 * total moves paths ≤ 4096)
+        × (carts + 3 * total moves paths + length (order-bounds (routes-of (of-paths paths))) + carts ≤ 8192)
+    unfolding plan-in
+    sizes =
+        let (few, short, there, kept) = within-says carts w (a .cells) within in
+        let p : Plan = plan-in roads carts w a in
+        let (events, count) = kept-says p (limits-by-paths p even ∙ kept) in (
+          few,
+          short,
+          there,
+          omega (arith, events, events-are p even, all-events carts w (a .cells) o there),
+          omega (arith, count, bounds-count),
+        )
+
+  module _ (firsts : List ℕ) (held : take (carts + 1) firsts ≡ first-events (of-paths paths)) where
+    -- the numbers of the carts' first events, and the finish's
+    firsts-are : take (suc carts) firsts ≡ firsts-from 1 paths
+    unfolding of-paths
+    firsts-are = ap (λ (n : ℕ). take n firsts) (sym (add-one carts)) ∙ held ∙ first-events-are (of-paths paths) (of-paths-carts paths)
+
+    -- one of them
+    first-at : (i : ℕ) → i ≤ carts → getD firsts i 0 ≡ getD (firsts-from 1 paths) i 0
+    first-at i l = sym (getD-take (suc carts) firsts i 0 (omega arith)) ∙ ap (λ (x : List ℕ). getD x i 0) firsts-are
+
+    -- all are there
+    pub firsts-there : carts < length firsts
+    firsts-there =
+        omega (arith, ap (λ (x : List ℕ). length x) firsts-are, firsts-count paths 1, paths-in-length carts w (a .cells), length-take (suc carts) firsts, min-le-right (suc carts) (length firsts))
+
+    -- and none is 0
+    pub firsts-positive : (i : ℕ) → i < carts → 0 < getD firsts (i + 1) 0
+    firsts-positive i l =
+        subst (λ (n : ℕ). 0 < n) (sym (first-at (i + 1) (omega arith))) (firsts-some paths 1 (i + 1) (omega arith) (omega (arith, l, paths-in-length carts w (a .cells))))
+
+    -- the finish's number
+    pub finish-at : getD firsts carts 0 ≡ finish-event (plan-in roads carts w a)
+    unfolding plan-in finish-event
+    finish-at =
+        first-at carts (omega arith) ∙ ap (λ (n : ℕ). getD (firsts-from 1 paths) n 0) (sym (paths-in-length carts w (a .cells))) ∙ finish-last paths 1
+        ∙ omega (arith, events-are (plan-in roads carts w a) even)
+
+    -- it is small
+    pub finish-small : paths-within carts w (a .cells) ≡ true → getD firsts carts 0 ≤ 4096
+    unfolding plan-in finish-event
+    finish-small within =
+        let p : Plan = plan-in roads carts w a in
+        let (_, _, _, kept) = within-says carts w (a .cells) within in
+        let (events, _) = kept-says p (limits-by-paths p even ∙ kept) in
+        omega (arith, finish-at, events)
+
+    -- the answer
+    pub answered : (n : ℕ) → n ≡ length (bounds (plan-in roads carts w a)) → Network.Bounds (getD firsts carts 0 + 1) n ≡ network-answer (some (plan-in roads carts w a))
+    unfolding plan-in finish-event network-answer
+    answered n e =
+        let p : Plan = plan-in roads carts w a in
+        let events : getD firsts carts 0 + 1 ≡ event-count p = omega (arith, finish-at, events-are p even) in
+        ap₂ (λ (x y : ℕ). Network.Bounds x y) events e
+
+    -- the start bounds
+    starts-are : map start-to (take carts firsts) ≡ start-bounds (routes-of (plan-in roads carts w a))
+    unfolding plan-in routes-of
+    starts-are =
+        let count : carts ≡ length paths = sym (paths-in-length carts w (a .cells)) in
+        ap (map start-to) (sym (take-take carts (suc carts) firsts (omega arith)) ∙ ap (take carts) firsts-are ∙ ap (λ (n : ℕ). take n (firsts-from 1 paths)) count)
+        ∙ starts-by (carts-in carts (a .speeds)) paths 1 1 even
+
+    -- the finish bounds
+    finishes-are : map (finish-before (getD firsts carts 0)) (take carts (drop 1 firsts))
+        ≡ finish-bounds (finish-event (plan-in roads carts w a)) (routes-of (plan-in roads carts w a))
+    unfolding plan-in routes-of
+    finishes-are =
+        let f : ℕ = finish-event (plan-in roads carts w a) in
+        let count : carts ≡ length paths = sym (paths-in-length carts w (a .cells)) in
+        ap (λ (n : ℕ). map (finish-before n) (take carts (drop 1 firsts))) finish-at
+        ∙ ap (map (finish-before f)) (
+        sym (take-take carts carts (drop 1 firsts) (omega arith)) ∙ ap (take carts) (sym (drop-take carts firsts) ∙ ap (drop 1) firsts-are)
+        ∙ ap (λ (n : ℕ). take n (drop 1 (firsts-from 1 paths))) count)
+        ∙ finishes-by f (carts-in carts (a .speeds)) paths 1 1 even
+
+    -- all bounds, one sort behind the other
+    pub whole-written : (g : Bound → List ℕ) → Pairs g → (s t u v x : List ℕ) (k j : ℕ)
+        → 2 * (carts + 3 * total moves paths + length (order-bounds (routes-of (of-paths paths))) + carts) ≤ length s
+        → k ≡ carts + 3 * total moves paths → j ≡ k + length (order-bounds (routes-of (of-paths paths)))
+        → t ≡ sets s (2 * 0) (flatMap g (map start-to (take carts firsts)))
+        → u ≡ sets t (2 * carts) (flatMap g (travel-bounds (roads-in roads (a .edges)) (routes 1 1 (carts-in carts (a .speeds)) paths)))
+        → v ≡ sets u (2 * k) (flatMap g (order-bounds (routes-of (of-paths paths))))
+        → x ≡ sets v (2 * j) (flatMap g (map (finish-before (getD firsts carts 0)) (take carts (drop 1 firsts))))
+        → x ≡ written (flatMap g (bounds (plan-in roads carts w a))) s
+    unfolding bounds plan-in routes-of
+    whole-written g p s t u v x k j room hk hj one two three four =
+        let q : Plan = plan-in roads carts w a in
+        let starts : List Bound = start-bounds (routes-of q) in
+        let travel : List Bound = travel-bounds (q .roads) (routes-of q) in
+        let orders : List Bound = order-bounds (routes-of q) in
+        let finishes : List Bound = finish-bounds (finish-event q) (routes-of q) in
+        let same : length (order-bounds (routes-of (of-paths paths))) ≡ length orders = ap (λ (os : List Bound). length os) orders-are in
+        let a0 : carts ≡ 0 + length starts = omega (arith, start-count (routes-of q), route-count (q .carts) (q .paths) 1 1 even, paths-in-length carts w (a .cells)) in
+        let a1 : k ≡ carts + length travel = omega (arith, hk, travels-count (q .roads) (q .carts) (q .paths) 1 1 even) in
+        let a2 : j ≡ k + length orders = omega (arith, hj, same) in
+        let size : length (flatMap g (bounds q)) ≤ length s = omega (arith, room, flat-length g p (bounds q), bounds-count) in
+        four ∙ ap (λ (bs : List Bound). sets v (2 * j) (flatMap g bs)) finishes-are
+        ∙ more-stored g p u v k j orders finishes a2 (three ∙ ap (λ (bs : List Bound). sets u (2 * k) (flatMap g bs)) orders-are)
+        ∙ more-stored g p t u carts k travel (orders ++ finishes) a1 two
+        ∙ more-stored g p s t 0 carts starts (travel ++ (orders ++ finishes)) a0 (one ∙ ap (λ (bs : List Bound). sets s (2 * 0) (flatMap g bs)) starts-are)
+        ∙ sets-written (flatMap g (bounds q)) s size
+
+-- ---- first events
+
+-- they are written where the limits are kept
+pub firsts-held : (n w : ℕ) (s z fs : List ℕ) → paths-within n w s ≡ true → 1 ≤ w → n < length z → fs ≡ written (firsts-fitting n w s (length z)) z
+    → take (n + 1) fs ≡ first-events (of-paths (paths-in n w s))
+unfolding firsts-fitting events-fit of-paths
+firsts-held n w s z fs within o room q =
+    let (few, short, there, kept) = within-says n w s within in
+    let (events, _) = kept-says (of-paths (paths-in n w s)) kept in
+    let front : List ℕ = first-events (of-paths (paths-in n w s)) in
+    let fit : events-fit n w s (length z) ≡ true =
+    simp (le-leb n 64 few, le-leb 1 w o, le-leb w 1024 short, le-leb (n * w) (length s) there, le-leb (event-count (of-paths (paths-in n w s))) 4096 events, le-leb (suc n) (length z) room) in
+    let count : n + 1 ≡ length front =
+    omega (arith, ap (λ (x : List ℕ). length x) (first-events-are (of-paths (paths-in n w s)) (of-paths-carts (paths-in n w s))), firsts-count (paths-in n w s) 1, paths-in-length n w s) in
+    ap (take (n + 1)) (q ∙ ap (λ (b : Bool). written (cond b front []) z) fit)
+    ∙ ap (λ (i : ℕ). take i (written front z)) count
+    ∙ written-front front z
+
+-- ---- order bounds
+
+-- how long the part of a slice from a place on is
+part-length : (s : List ℕ) (m : ℕ) → length (midOf m (length s - m) s) ≡ length s - m
+part-length s m = ap (λ (x : List ℕ). length x) (rest-is s m) ∙ length-drop m s
+
+module _ (n w : ℕ) (s : List ℕ) (k : ℕ) (ends ranges : List ℕ) where
+  -- the order bounds
+  abbrev ordered : List Bound
+  ordered = order-bounds (routes-of (of-paths (paths-in n w s)))
+
+  -- those that are written to the parts of two slices behind k bounds
+  abbrev written-there : List Bound
+  written-there = orders-fitting n w s (length (midOf (2 * k) (length ends - 2 * k) ends)) (length (midOf (2 * k) (length ranges - 2 * k) ranges))
+
+  module _ (within : paths-within n w s ≡ true) (o : 1 ≤ w) (h : 2 * (k + length ordered) ≤ length ends) (l : 2 * (k + length ordered) ≤ length ranges) where
+    -- all of them are
+    pub orders-fit : written-there ≡ ordered
+    unfolding orders-fitting
+    orders-fit =
+        let e : 2 * length ordered ≤ length (midOf (2 * k) (length ends - 2 * k) ends) = omega (arith, part-length ends (2 * k)) in
+        let r : 2 * length ordered ≤ length (midOf (2 * k) (length ranges - 2 * k) ranges) = omega (arith, part-length ranges (2 * k)) in
+        simp (le-leb 1 w o, within, le-leb (2 * length ordered) (length (midOf (2 * k) (length ends - 2 * k) ends)) e, le-leb (2 * length ordered) (length (midOf (2 * k) (length ranges - 2 * k) ranges)) r)
+
+    -- stored in one of them
+    pub orders-stored : (g : Bound → List ℕ) → Pairs g → (x t : List ℕ) → 2 * (k + length ordered) ≤ length x
+        → t ≡ written (flatMap g written-there) (midOf (2 * k) (length x - 2 * k) x) → putMid (2 * k) (length x - 2 * k) x t ≡ sets x (2 * k) (flatMap g ordered)
+    orders-stored g p x t room q =
+        part-stored (flatMap g ordered) x t (2 * k) (omega (arith, room, flat-length g p ordered))
+        (q ∙ ap (λ (bs : List Bound). written (flatMap g bs) (midOf (2 * k) (length x - 2 * k) x)) orders-fit)

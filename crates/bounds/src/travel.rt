@@ -1,0 +1,242 @@
+// The travel bounds of a plan: three for each move, by the length and the margin of its road and the speeds of its cart.
+use crate::Track;
+ghost use mathlib.Core.Path.{_≡_};
+ghost use mathlib.Core.List.{flatMap};
+ghost use Prim.Native.Nat.{_+_, _*_, _-_, _≤_, _<_, _^_};
+ghost use lib.ListN.{length, take, drop};
+ghost use lib.Seq.{sets};
+ghost use Rattle.floor.specs.Plan.{joins};
+ghost use Rattle.tables.specs.Arrays.{roads-in, carts-in, paths-in};
+ghost use Rattle.network.specs.Events.{routes};
+ghost use Rattle.network.specs.Bounds.{div-up, most-time, travel-bounds};
+ghost use Rattle.network.specs.BoundArrays.{bound-ends, bound-range, hi-number};
+ghost use Rattle.limits.specs.Counts.{total, moves};
+ghost use Rattle.bounds.specs.Writing.{speed-of, cart-of, road-of, road-found, part-bound, move-bounds, path-bounds};
+
+// Whether a road between two cells joins a and b, in either direction.
+fn is_between(from: u32, to: u32, a: u32, b: u32) -> bool
+    ensures { λ r. ⌜ r ≡ joins a b (record { from = from; to = to; length = 0; margin = 0 }) ⌝ }
+{
+    if from == a {
+        if to == b {
+            return true;
+        }
+    }
+    if from == b {
+        return to == a;
+    }
+    false
+}
+
+// The length and the margin of the road between two cells, 0 where there is none.
+fn find_road(edges: &[u32], roads: usize, a: u32, b: u32) -> Track
+    requires { ⌜ (roads ≤ 1024) × (4 * roads ≤ length (now edges)) ⌝ }
+    ensures { λ r. ⌜ r .length ≡ road-found (roads-in roads (now (edges .entry))) a b .length ⌝ }
+    ensures { λ r. ⌜ r .margin ≡ road-found (roads-in roads (now (edges .entry))) a b .margin ⌝ }
+{
+    let mut i: usize = 0;
+    while i < roads {
+        if is_between(edges[4 * i], edges[4 * i + 1], a, b) {
+            return Track {
+                length: edges[4 * i + 2],
+                margin: edges[4 * i + 3],
+            };
+        }
+        i += 1;
+    }
+    Track {
+        length: 0,
+        margin: 0,
+    }
+}
+
+// The least time of a part of a move, in milliseconds, rounded up; 0 where no speed is given.
+fn least_time(part: u32, fastest: u32) -> u64
+    ensures { λ r. ⌜ r ≡ div-up (1000 * part) fastest ⌝ }
+{
+    if fastest == 0 {
+        return 0;
+    }
+    let d = fastest as u64;
+    (1000 * (part as u64) + (d - 1)) / d
+}
+
+// The most time of a part of a move, rounded down, and one more; 0 where there is no slowest speed.
+fn most_time(part: u32, slowest: u32) -> u64
+    ensures { λ r. ⌜ r ≡ hi-number (most-time (record { length = part; slowest = speed-of slowest })) ⌝ }
+{
+    if slowest == 0 {
+        return 0;
+    }
+    1000 * (part as u64) / (slowest as u64) + 1
+}
+
+// What is left of a road's length between its margins.
+fn rest_length(length: u32, margin: u32) -> u32
+    ensures { λ r. ⌜ r ≡ length - 2 * margin ⌝ }
+{
+    if length < margin {
+        return 0;
+    }
+    if length - margin < margin {
+        return 0;
+    }
+    length - margin - margin
+}
+
+// Puts the travel bound of a part of a move in the k-th place of two arrays: from event e to the next.
+fn put_part(
+    part: u32,
+    fastest: u32,
+    slowest: u32,
+    e: u16,
+    k: usize,
+    ends: &mut [u16],
+    ranges: &mut [u64],
+)
+    requires { ⌜ (e + 1 ≤ 4096) × (2 * k + 2 ≤ length (now ends)) × (2 * k + 2 ≤ length (now ranges)) ⌝ }
+    ensures { λ _. ⌜ now (ends .exit) ≡ sets (now (ends .entry)) (2 * k) (bound-ends (part-bound (cart-of fastest slowest) e part)) ⌝ }
+    ensures { λ _. ⌜ now (ranges .exit) ≡ sets (now (ranges .entry)) (2 * k) (bound-range (part-bound (cart-of fastest slowest) e part)) ⌝ }
+{
+    let lo = least_time(part, fastest);
+    let hi = most_time(part, slowest);
+    crate::put_bound(ends, ranges, k, e, e + 1, lo, hi);
+}
+
+// Puts the three travel bounds of a move along a road, the first from event e, in two arrays from the k-th place on.
+fn put_parts(
+    track: Track,
+    fastest: u32,
+    slowest: u32,
+    e: u16,
+    k: usize,
+    ends: &mut [u16],
+    ranges: &mut [u64],
+)
+    requires { ⌜ (e + 3 ≤ 4096) × (2 * (k + 3) ≤ length (now ends)) × (2 * (k + 3) ≤ length (now ranges)) ⌝ }
+    ensures { λ _. ⌜ now (ends .exit) ≡ sets (now (ends .entry)) (2 * k)
+        (flatMap bound-ends (move-bounds (cart-of fastest slowest) e (road-of (track .length) (track .margin)))) ⌝ }
+    ensures { λ _. ⌜ now (ranges .exit) ≡ sets (now (ranges .entry)) (2 * k)
+        (flatMap bound-range (move-bounds (cart-of fastest slowest) e (road-of (track .length) (track .margin)))) ⌝ }
+{
+    let margin = track.margin;
+    let rest = rest_length(track.length, margin);
+    put_part(margin, fastest, slowest, e, k, ends, ranges);
+    put_part(rest, fastest, slowest, e + 1, k + 1, ends, ranges);
+    put_part(margin, fastest, slowest, e + 2, k + 2, ends, ranges);
+}
+
+// Puts those of a move from cell a to cell b.
+fn put_move(
+    edges: &[u32],
+    roads: usize,
+    a: u32,
+    b: u32,
+    fastest: u32,
+    slowest: u32,
+    e: u16,
+    k: usize,
+    ends: &mut [u16],
+    ranges: &mut [u64],
+)
+    requires { ⌜ (roads ≤ 1024) × (4 * roads ≤ length (now edges)) ⌝ }
+    requires { ⌜ (e + 3 ≤ 4096) × (2 * (k + 3) ≤ length (now ends)) × (2 * (k + 3) ≤ length (now ranges)) ⌝ }
+    ensures { λ _. ⌜ now (ends .exit) ≡ sets (now (ends .entry)) (2 * k)
+        (flatMap bound-ends (move-bounds (cart-of fastest slowest) e (road-found (roads-in roads (now (edges .entry))) a b))) ⌝ }
+    ensures { λ _. ⌜ now (ranges .exit) ≡ sets (now (ranges .entry)) (2 * k)
+        (flatMap bound-range (move-bounds (cart-of fastest slowest) e (road-found (roads-in roads (now (edges .entry))) a b))) ⌝ }
+{
+    let track = find_road(edges, roads, a, b);
+    put_parts(track, fastest, slowest, e, k, ends, ranges);
+}
+
+// Puts the travel bounds of the path at place `at`; returns the place behind them.
+fn travel_of(
+    edges: &[u32],
+    cells: &[u32],
+    roads: usize,
+    at: usize,
+    steps: usize,
+    fastest: u32,
+    slowest: u32,
+    e: u16,
+    k: usize,
+    ends: &mut [u16],
+    ranges: &mut [u64],
+) -> usize
+    requires { ⌜ (roads ≤ 1024) × (4 * roads ≤ length (now edges)) × (1 ≤ steps) × (at + steps ≤ length (now cells)) ⌝ }
+    requires { ⌜ (e + 3 * moves (take steps (drop at (now cells))) ≤ 4096) × (k + 3 * moves (take steps (drop at (now cells))) ≤ 8192) ⌝ }
+    requires { ⌜ (16_384 ≤ length (now ends)) × (16_384 ≤ length (now ranges)) ⌝ }
+    ensures { λ r. ⌜ r ≡ k + 3 * moves (take steps (drop at (now (cells .entry)))) ⌝ }
+    ensures { λ _. ⌜ now (ends .exit) ≡ sets (now (ends .entry)) (2 * k)
+        (flatMap bound-ends (path-bounds (roads-in roads (now (edges .entry))) (cart-of fastest slowest) e (take steps (drop at (now (cells .entry)))))) ⌝ }
+    ensures { λ _. ⌜ now (ranges .exit) ≡ sets (now (ranges .entry)) (2 * k)
+        (flatMap bound-range (path-bounds (roads-in roads (now (edges .entry))) (cart-of fastest slowest) e (take steps (drop at (now (cells .entry)))))) ⌝ }
+{
+    let mut c = cells[at];
+    let mut f = e;
+    let mut n = k;
+    let mut s: usize = 1;
+    while s < steps {
+        let d = cells[at + s];
+        if c != d {
+            put_move(edges, roads, c, d, fastest, slowest, f, n, ends, ranges);
+            f += 3;
+            n += 3;
+        }
+        c = d;
+        s += 1;
+    }
+    n
+}
+
+// Puts the travel bounds of all carts in two arrays, from the k-th place on; returns the place behind them.
+pub(crate) fn write_travel(
+    edges: &[u32],
+    speeds: &[u32],
+    cells: &[u32],
+    roads: usize,
+    carts: usize,
+    steps: usize,
+    k: usize,
+    ends: &mut [u16],
+    ranges: &mut [u64],
+) -> usize
+    requires { ⌜ (roads ≤ 1024) × (4 * roads ≤ length (now edges)) × (carts ≤ 64) × (2 * carts ≤ length (now speeds)) ⌝ }
+    requires { ⌜ (1 ≤ steps) × (steps ≤ 1024) × (carts * steps ≤ length (now cells)) ⌝ }
+    requires { ⌜ 1 + carts + 3 * total moves (paths-in carts steps (now cells)) ≤ 4096 ⌝ }
+    requires { ⌜ k + 3 * total moves (paths-in carts steps (now cells)) ≤ 8192 ⌝ }
+    requires { ⌜ (16_384 ≤ length (now ends)) × (16_384 ≤ length (now ranges)) ⌝ }
+    ensures { λ r. ⌜ r ≡ k + 3 * total moves (paths-in carts steps (now (cells .entry))) ⌝ }
+    ensures { λ _. ⌜ now (ends .exit) ≡ sets (now (ends .entry)) (2 * k)
+        (flatMap bound-ends (travel-bounds (roads-in roads (now (edges .entry))) (routes 1 1 (carts-in carts (now (speeds .entry))) (paths-in carts steps (now (cells .entry)))))) ⌝ }
+    ensures { λ _. ⌜ now (ranges .exit) ≡ sets (now (ranges .entry)) (2 * k)
+        (flatMap bound-range (travel-bounds (roads-in roads (now (edges .entry))) (routes 1 1 (carts-in carts (now (speeds .entry))) (paths-in carts steps (now (cells .entry)))))) ⌝ }
+{
+    let mut e: u16 = 1;
+    let mut n = k;
+    let mut i: usize = 0;
+    let mut at: usize = 0;
+    while i < carts {
+        let fastest = speeds[2 * i];
+        let slowest = speeds[2 * i + 1];
+        let m = travel_of(
+            edges,
+            cells,
+            roads,
+            at,
+            steps,
+            fastest,
+            slowest,
+            e,
+            n,
+            ends,
+            ranges,
+        );
+        e += (m - n) as u16 + 1;
+        n = m;
+        at += steps;
+        i += 1;
+    }
+    n
+}
