@@ -93,7 +93,7 @@ none-twice (a ∷ as′) (h, more) =
     (none-twice as′ more)
 
 -- what a cycle gains, its chain costs less than nothing
-mirror-cost : (as′ : List Arc) → cost (map mirror as′) ≡ negℤ (total as′)
+pub mirror-cost : (as′ : List Arc) → cost (map mirror as′) ≡ negℤ (total as′)
 unfolding cost total
 mirror-cost [] = refl
 mirror-cost (a ∷ as′) =
@@ -101,7 +101,7 @@ mirror-cost (a ∷ as′) =
     omega (signed, sum (negℤ (a .adds)) (cost (map mirror as′)), sum (a .adds) (total as′), neg-up (a .adds), neg-dn (a .adds), neg-up (total as′), neg-dn (total as′), neg-up (a .adds +ℤ total as′), neg-dn (a .adds +ℤ total as′))
 
 -- a cycle's arcs, mirrored, are closed and cost less than 0
-mirror-closed : (arcs′ : List Arc) (n : ℕ) (c : PositiveCycle arcs′ n) → T (closed-below-0 (some (map mirror (c .first ∷ c .rest))))
+pub mirror-closed : (arcs′ : List Arc) (n : ℕ) (c : PositiveCycle arcs′ n) → T (closed-below-0 (some (map mirror (c .first ∷ c .rest))))
 unfolding closed-below-0 total
 mirror-closed arcs′ n c =
     let (e, h) = c .closed in

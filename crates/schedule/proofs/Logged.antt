@@ -151,7 +151,7 @@ module _ (p : Plan) (b : Book) (l : Logged p b) where
 
   -- ---- what the arcs add
 
-  bound-most : (c : Bound) → List·Memᴰ c (all-bounds p b) → (c .lo ≤ 1_000_000_000_000) × ((h : ℕ) → c .hi ≡ some h → h ≤ 1_000_000_000_000)
+  pub bound-most : (c : Bound) → List·Memᴰ c (all-bounds p b) → (c .lo ≤ 1_000_000_000_000) × ((h : ℕ) → c .hi ≡ some h → h ≤ 1_000_000_000_000)
   unfolding all-bounds
   bound-most c m =
       ⊎-elim (λ k. let (x, y) = bound-sizes (l .tables) p (l .of-tables) c k in (omega (arith, x), λ h q. omega (arith, y h q)))

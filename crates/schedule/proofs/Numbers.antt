@@ -1,11 +1,11 @@
 -- A bound's number leads to that bound: no two bounds have the same. Assumes nothing.
-use Prim.Native.Nat.{ℕ, suc, _+_, _≤_, _<_}
+use Prim.Native.Nat.{ℕ, zero, suc, _+_, _≤_, _<_}
 use native.Mathlib.Omega.{arith}
 use mathlib.Core.Path.{_≡_, refl, ap, sym, _∙_, subst}
 use mathlib.Core.Logic.{⊎-elim}
 use mathlib.Core.Bool.{Bool, cond}
-use mathlib.Core.List.{List, [], _∷_, _++_, map, tail, List·Memᴰ, List·Memᴰ·not-nil, List·Memᴰ·cases-cons, List·Memᴰ·append-cases, Memᴰ·map}
-use lib.ListN.{length, drop}
+use mathlib.Core.List.{List, [], _∷_, _++_, map, tail, List·Memᴰ, List·Memᴰ·head, List·Memᴰ·tail, List·Memᴰ·not-nil, List·Memᴰ·cases-cons, List·Memᴰ·append-cases, Memᴰ·map, Memᴰ·of-map}
+use lib.ListN.{length, getD, drop, length-map}
 use Rattle.laws.proofs.Tests.{equal-passes, unequal-fails}
 use Rattle.laws.proofs.Rising.{Rises, rises-member}
 use Rattle.floor.specs.Plan.{Cart, Plan}
@@ -144,6 +144,32 @@ added-leads (b ∷ bs) e c r m =
     lead-on (record { number = 10_000 + b .to; bound = b }) (added-numbered bs) c (10_000 + c .to) (λ (q : 10_000 + b .to ≡ 10_000 + c .to). omega arith) (added-leads bs (b .to) c (r .1) t))
     (List·Memᴰ·cases-cons m)
 
+-- numbers that rise above e and stay below n are few
+above-few : (l : List ℕ) (e n : ℕ) → Above e l → ((x : ℕ) → List·Memᴰ x l → x < n) → e < n → e + length l < n
+above-few [] e n r h l = omega arith
+above-few (x ∷ xs) e n r h l =
+    let rest : x + length xs < n = above-few xs x n (r .1) (λ y m. h y (List·Memᴰ·tail m)) (h x (List·Memᴰ·head refl)) in
+    omega (arith, rest, r .0)
+
+-- so there are fewer added bounds than events
+pub added-few : (p : Plan) (b : Book) → KeptBook p b → (n : ℕ) → 1 < n → ((c : Bound) → List·Memᴰ c (added-bounds p b) → c .to < n) → length (added-bounds p b) < n
+unfolding added-bounds routes-of
+added-few p b kept n l h =
+    let bs : List Bound = added-bounds p b in
+    let rest : 1 + length (ends bs) < n =
+    above-few (ends bs) 1 n (added-rise (p .carts) (p .paths) 1 1 (b .clock) (b .passed) (kept .carts))
+    (λ x m. let (c, k, e) = Memᴰ·of-map (λ (c : Bound). c .to) bs m in subst (λ (y : ℕ). y < n) e (h c k)) l in
+    omega (arith, rest, length-map bs (λ (c : Bound). c .to))
+
+-- a number of a plan and its book's added bound leads to it
+pub added-number : (p : Plan) (b : Book) → KeptBook p b → length (bounds p) ≤ 8192 → (c : Bound) → List·Memᴰ c (added-bounds p b) → Leads (numbered-bounds p b) c (10_000 + c .to)
+unfolding numbered-bounds added-bounds routes-of
+added-number p b kept few c h =
+    let q = added-leads (added-bounds p b) 1 c (added-rise (p .carts) (p .paths) 1 1 (b .clock) (b .passed) (kept .carts)) h in
+    record {
+      leads = λ d. past-own (bounds p) 0 (added-numbered (added-bounds p b)) (record { number = 10_000 + c .to; direction = d }) (omega (arith, few)) ∙ q .leads d;
+    }
+
 -- every bound of a plan and its book has a number that leads to it
 pub has-number : (p : Plan) (b : Book) → KeptBook p b → length (bounds p) ≤ 8192 → (c : Bound) → List·Memᴰ c (all-bounds p b)
     → (k : ℕ) × Leads (numbered-bounds p b) c k
@@ -154,10 +180,20 @@ has-number p b kept few c m = ⊎-elim own added (List·Memᴰ·append-cases (bo
     own h = let (k, l, q) = own-number (bounds p) 0 (added-numbered (added-bounds p b)) c h in (k, q)
 
     added : List·Memᴰ c (added-bounds p b) → (k : ℕ) × Leads (numbered-bounds p b) c k
-    added h =
-        let q = added-leads (added-bounds p b) 1 c (added-rise (p .carts) (p .paths) 1 1 (b .clock) (b .passed) (kept .carts)) h in (
-          10_000 + c .to,
-          record {
-            leads = λ d. past-own (bounds p) 0 (added-numbered (added-bounds p b)) (record { number = 10_000 + c .to; direction = d }) (omega (arith, few)) ∙ q .leads d;
-          },
-        )
+    added h = (10_000 + c .to, added-number p b kept few c h)
+
+-- the plan's own bound at place i has the number i
+own-at : (bs : List Bound) (j : ℕ) (rest : List Numbered) (i : ℕ) (c : Bound) → i < length bs → getD bs i c ≡ c → Leads (numbered j bs ++ rest) c (j + i)
+unfolding numbered
+own-at [] j rest i c l e = absurd (omega arith)
+own-at (b ∷ bs) j rest zero c l e =
+    let z : j ≡ j + 0 = omega arith in
+    subst (Leads (numbered j (b ∷ bs) ++ rest) c) z (lead-here (record { number = j; bound = b }) (numbered (suc j) bs ++ rest) c (sym e))
+own-at (b ∷ bs) j rest (suc i) c l e =
+    let z : suc j + i ≡ j + suc i = omega arith in
+    subst (Leads (numbered j (b ∷ bs) ++ rest) c) z
+    (lead-on (record { number = j; bound = b }) (numbered (suc j) bs ++ rest) c (suc j + i) (λ (q : j ≡ suc j + i). omega arith) (own-at bs (suc j) rest i c (omega arith) e))
+
+pub own-place : (p : Plan) (b : Book) (i : ℕ) (c : Bound) → i < length (bounds p) → getD (bounds p) i c ≡ c → Leads (numbered-bounds p b) c i
+unfolding numbered-bounds
+own-place p b i c l e = let z : 0 + i ≡ i = omega arith in subst (Leads (numbered-bounds p b) c) z (own-at (bounds p) 0 (added-numbered (added-bounds p b)) i c l e)

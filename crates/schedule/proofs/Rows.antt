@@ -4,12 +4,15 @@ use mathlib.Core.Path.{_≡_, refl}
 use mathlib.Core.Bool.{true, false}
 use mathlib.Core.List.{List, [], _∷_, map}
 use mathlib.Core.Option.{none, some}
+use lib.ListN.{replicate}
+use Rattle.words.specs.Words.{open-words}
 use Rattle.floor.specs.Plan.{Road, Plan}
 use Rattle.network.proofs.Rows.{bound}
 use Rattle.schedule.specs.Book.{Report, _at_, Book, first-book, has-next, in-time, book-after, replay, passed-points, points-to-pass}
 use Rattle.schedule.specs.Added.{Numbered, added-bounds, numbered-bounds}
 use Rattle.schedule.specs.Timetable.{timetable}
 use Rattle.schedule.specs.Chain.{Direction, onward, back, direction-number, Item, is-chain}
+use Rattle.schedule.specs.Lent.{Lent, times-written, chain-written}
 use Rattle.schedule.specs.Open.{open-schedule}
 
 -- "every road 1,000,000 long, margin 250,000"
@@ -129,3 +132,19 @@ chains-follow = refl
 directions-follow : direction-number onward ∷ direction-number back ∷ [] ≡ 0 ∷ 1 ∷ []
 unfolding open-schedule
 directions-follow = refl
+
+-- ---- what a timetable writes
+
+-- slices of sevens
+lent : Lent
+lent = record { times = replicate 18 7; chain-bounds = replicate 5 7; chain-directions = replicate 3 7 }
+
+-- eight bytes an event, two an item and one a direction, and nothing else
+written-follows : times-written (record { times = 5 ∷ 258 ∷ []; passes = 3 }) lent
+    ∷ chain-written (record { number = 10_002; direction = back } ∷ record { number = 1; direction = onward } ∷ []) lent
+    ∷ []
+    ≡ record { times = 5 ∷ 0 ∷ 0 ∷ 0 ∷ 0 ∷ 0 ∷ 0 ∷ 0 ∷ 2 ∷ 1 ∷ 0 ∷ 0 ∷ 0 ∷ 0 ∷ 0 ∷ 0 ∷ 7 ∷ 7 ∷ []; chain-bounds = replicate 5 7; chain-directions = replicate 3 7 }
+    ∷ record { times = replicate 18 7; chain-bounds = 18 ∷ 39 ∷ 1 ∷ 0 ∷ 7 ∷ []; chain-directions = 1 ∷ 0 ∷ 7 ∷ [] }
+    ∷ []
+unfolding open-schedule open-words lent
+written-follows = refl

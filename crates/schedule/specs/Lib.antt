@@ -3,4 +3,5 @@ pub mod Added
 pub mod Fits
 pub mod Timetable
 pub mod Chain
+pub mod Lent
 pub mod Open

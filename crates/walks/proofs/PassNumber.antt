@@ -18,7 +18,7 @@ use Rattle.walks.proofs.Greatest.{EndsBelow, sums-length, sum-is-greate
 
 -- ---- the test of two lists of sums
 
-same-number-eq : (x y : ℤ) → T (same-number x y) → x ≡ y
+pub same-number-eq : (x y : ℤ) → T (same-number x y) → x ≡ y
 unfolding same-number
 same-number-eq (pos a) (pos b) t = ap pos (eqb→eq a b t)
 same-number-eq (pos a) (negsuc b) t = absurd t

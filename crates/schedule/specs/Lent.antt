@@ -1,0 +1,32 @@
+-- What a timetable writes to the slices lent to it (document 01, "Turned down because of the state").
+-- Assumes nothing.
+use Prim.Native.Nat.{ℕ}
+use mathlib.Core.List.{List, map}
+use Rattle.words.specs.Words.{words, written}
+use Rattle.schedule.specs.Timetable.{Timetable}
+use Rattle.schedule.specs.Chain.{Item, direction-number}
+
+-- the slices lent to a timetable for writing
+pub record Lent : Type 0 where
+  pub times : List ℕ
+  pub chain-bounds : List ℕ
+  pub chain-directions : List ℕ
+
+-- "A timetable that succeeds writes the events' places of the times slice and … nothing else."
+unfoldable pub times-written : Timetable → Lent → Lent
+times-written t l =
+    record { times = written (words 8 (t .times)) (l .times); chain-bounds = l .chain-bounds; chain-directions = l .chain-directions }
+
+-- "the chain is written to the front of its slices …; the chain slices' other places and the times slice stay as they came"
+unfoldable pub chain-written : List Item → Lent → Lent
+chain-written is l =
+    record {
+      times = l .times;
+      chain-bounds = written (words 2 (map (λ (i : Item). i .number) is)) (l .chain-bounds);
+      chain-directions = written (map (λ (i : Item). direction-number (i .direction)) is) (l .chain-directions);
+    }
+
+-- Names every definition of this module, for a proof that computes with them all.
+unfoldable pub open-lent : Unit {0}
+unfolding times-written chain-written
+open-lent = tt
