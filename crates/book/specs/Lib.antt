@@ -1,0 +1,3 @@
+pub mod Log
+pub mod Replaying
+pub mod Writing

@@ -1,0 +1,52 @@
+-- The book that a log gives, and the bounds that it adds: what the code that replays it answers and writes, on all input.
+-- Assumes nothing.
+use Prim.Native.Nat.{ℕ}
+use mathlib.Core.Bool.{Bool, true, false, _&&_, cond}
+use mathlib.Core.List.{List, [], _∷_}
+use mathlib.Core.Option.{Option, none, some}
+use lib.Dec.{leb}
+use lib.ListN.{length, take, drop}
+use Rattle.words.specs.Words.{little}
+use Rattle.floor.specs.Plan.{Plan}
+use Rattle.tables.specs.Arrays.{paths-in}
+use Rattle.network.specs.Bounds.{Bound}
+use Rattle.limits.specs.Limits.{of-paths}
+use Rattle.limits.specs.Orders.{events-fit}
+use Rattle.schedule.specs.Book.{Report, Book, first-book, replay}
+use Rattle.schedule.specs.Added.{added-bounds}
+use Rattle.book.specs.declared.Added.{Added}
+
+-- the reports of these carts, their times in the bytes s
+unfoldable pub entries : List ℕ → List ℕ → List Report
+entries [] s = []
+entries (c ∷ cs) s = record { cart = c; time = little (take 8 s) } ∷ entries cs (drop 8 s)
+
+-- the book that a log gives over n paths of w cells each in the front of an array: none where there is no such book, or the paths pass the limits
+unfoldable pub log-book : ℕ → ℕ → List ℕ → List ℕ → List ℕ → Option Book
+log-book n w s carts times =
+    let p : Plan = of-paths (paths-in n w s) in
+    cond (events-fit n w s 65) (replay p (first-book p) (entries carts times)) none
+
+-- whether there is one
+unfoldable pub is-book : Option Book → Bool
+is-book none = false
+is-book (some b) = true
+
+-- the same, where two arrays have room for a bound for each of 4,096 events
+unfoldable pub book-fitting : ℕ → ℕ → Option Book → Option Book
+book-fitting ends ranges b = cond (leb 8192 ends && leb 8192 ranges) b none
+
+-- the bounds that it adds
+unfoldable pub added-of : Plan → Option Book → List Bound
+added-of p none = []
+added-of p (some b) = added-bounds p b
+
+-- how many
+unfoldable pub added-answer : Plan → Option Book → Added
+added-answer p none = Added.NoBook
+added-answer p (some b) = Added.Count (length (added-bounds p b))
+
+-- Names every definition of this module, for a proof that computes with them all.
+unfoldable pub open-log : Unit {0}
+unfolding entries log-book is-book book-fitting added-of added-answer
+open-log = tt

@@ -1,0 +1,81 @@
+// The marker's book, from the log of accepted reports: whether there is one, and the bounds that it adds. Its definition is that of
+// schedule.
+mod replay;
+mod writing;
+
+ghost use mathlib.Core.Path.{_≡_};
+ghost use mathlib.Core.List.{flatMap};
+ghost use lib.ListN.{length};
+ghost use Rattle.words.specs.Words.{written};
+ghost use Rattle.tables.specs.Arrays.{paths-in};
+ghost use Rattle.network.specs.BoundArrays.{bound-ends, bound-range};
+ghost use Rattle.limits.specs.Limits.{of-paths};
+ghost use Rattle.book.specs.Log.{log-book, is-book, book-fitting, added-of, added-answer};
+
+// What the writer of added bounds answers: how many there are.
+pub enum Added {
+    NoBook,
+    Count(usize),
+}
+
+// What a replay comes to: the clock.
+enum Replayed {
+    NoBook,
+    Clock(u64),
+}
+
+// Whether each report of a log is accepted in its turn: the carts' numbers, a byte each, and the times, eight bytes each.
+pub fn accepts(cells: &[u32], carts: usize, steps: usize, log: &[u8], times: &[u8]) -> bool
+    ensures { λ r. ⌜ r ≡ is-book (log-book carts steps (now (cells .entry)) (now (log .entry)) (now (times .entry))) ⌝ }
+{
+    let mut firsts = [0u16; 65];
+    if !limits::first_events(cells, carts, steps, &mut firsts) {
+        return false;
+    }
+    let mut counts = [1u16; 64];
+    let x = replay::replay(&firsts, carts, log, times, &mut counts);
+    match x {
+        Replayed::NoBook => false,
+        Replayed::Clock(_) => true,
+    }
+}
+
+// Writes the bounds that the book of a log adds to the front of two arrays.
+pub fn write_added(
+    cells: &[u32],
+    carts: usize,
+    steps: usize,
+    log: &[u8],
+    times: &[u8],
+    ends: &mut [u16],
+    ranges: &mut [u64],
+) -> Added
+    ensures answer { λ r. ⌜ r ≡ added-answer (of-paths (paths-in carts steps (now (cells .entry)))) (book-fitting (length (now (ends .entry))) (length (now (ranges .entry))) (log-book carts steps (now (cells .entry)) (now (log .entry)) (now (times .entry)))) ⌝ }
+    ensures left { λ _. ⌜ now (ends .exit) ≡ written (flatMap bound-ends (added-of (of-paths (paths-in carts steps (now (cells .entry)))) (book-fitting (length (now (ends .entry))) (length (now (ranges .entry))) (log-book carts steps (now (cells .entry)) (now (log .entry)) (now (times .entry)))))) (now (ends .entry)) ⌝ }
+    ensures left_ranges { λ _. ⌜ now (ranges .exit) ≡ written (flatMap bound-range (added-of (of-paths (paths-in carts steps (now (cells .entry)))) (book-fitting (length (now (ends .entry))) (length (now (ranges .entry))) (log-book carts steps (now (cells .entry)) (now (log .entry)) (now (times .entry)))))) (now (ranges .entry)) ⌝ }
+{
+    if ends.len() < 8192 {
+        return Added::NoBook;
+    }
+    if ranges.len() < 8192 {
+        return Added::NoBook;
+    }
+    let mut firsts = [0u16; 65];
+    if !limits::first_events(cells, carts, steps, &mut firsts) {
+        return Added::NoBook;
+    }
+    let mut counts = [1u16; 64];
+    let x = replay::replay(&firsts, carts, log, times, &mut counts);
+    match x {
+        Replayed::NoBook => Added::NoBook,
+        Replayed::Clock(clock) => Added::Count(writing::write_all(
+            &firsts,
+            carts,
+            clock,
+            log,
+            times,
+            ends,
+            ranges,
+        )),
+    }
+}
