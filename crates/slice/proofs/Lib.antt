@@ -1,0 +1,3 @@
+pub mod Slice
+pub mod Laid
+pub mod Holds

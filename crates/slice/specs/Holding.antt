@@ -1,0 +1,58 @@
+-- The plan that a slice holds, in arrays: what the code that reads it answers and leaves, on all input.
+-- Assumes nothing.
+use Prim.Native.Nat.{ℕ}
+use mathlib.Core.Bool.{Bool, true, false, _&&_, cond}
+use mathlib.Core.List.{List, [], _∷_}
+use mathlib.Core.Option.{Option, none, some}
+use lib.Dec.{leb, eqb}
+use lib.ListN.{length}
+use Rattle.floor.specs.Paths.{steps}
+use Rattle.floor.specs.Tables.{Tables}
+use Rattle.tables.specs.Reading.{Arrays, room, zeros, numbers-of}
+use Rattle.schedule.specs.Book.{Report}
+use Rattle.slice.specs.declared.Holding.{Holding}
+use Rattle.slice.specs.declared.Layout.{Layout}
+use Rattle.slice.specs.PlanSlice.{plan-need, tables-in, log-in, Held, nothing-else, held}
+
+-- nothing but zeros
+unfoldable pub only-zeros : List ℕ → Bool
+only-zeros [] = true
+only-zeros (b ∷ bs) = eqb b 0 && only-zeros bs
+
+-- how long the three tables in a slice are and how many reports its log has, where it holds nothing else
+unfoldable pub layout : List ℕ → Layout
+layout s =
+    let ts : Tables = tables-in s in
+    cond (nothing-else s ts (log-in s)) (Layout.Parts (length (ts .roads)) (length (ts .carts)) (length (ts .paths)) (length (log-in s))) Layout.Broken
+
+-- what is said of a slice: how many roads, carts, steps and reports its plan has
+unfoldable pub holding : Option Held → Holding
+holding none = Holding.NoPlan
+holding (some h) = Holding.Held (length (h .plan .roads)) (length (h .plan .carts)) (steps (h .plan .paths)) (length (h .log))
+
+-- what is left in the arrays: the plan's numbers, or zeros
+unfoldable pub arrays-held : Arrays → Option Held → Arrays
+arrays-held a none = zeros a
+arrays-held a (some h) = numbers-of a (h .plan)
+
+-- an answer, and what the arrays then hold
+pub record Outcome : Type 0 where
+  pub answer : Holding
+  pub arrays : Arrays
+
+-- where the slice is too short or the arrays have no room they stay as they came
+unfoldable pub read-slice : List ℕ → Arrays → Outcome
+read-slice s a =
+    elim (leb plan-need (length s) && room a) [
+      | false ↦ record { answer = Holding.TooShort; arrays = a }
+      | true ↦ record { answer = holding (held s); arrays = arrays-held a (held s) }
+    ]
+
+-- the same, of the slices lent to the reader
+unfoldable pub plan-into : List ℕ → List ℕ → List ℕ → List ℕ → Outcome
+plan-into plan edges speeds cells = read-slice plan (record { roads = edges; carts = speeds; cells = cells })
+
+-- Names every definition of this module, for a proof that computes with them all.
+unfoldable pub open-holding : Unit {0}
+unfolding only-zeros layout holding arrays-held read-slice plan-into
+open-holding = tt

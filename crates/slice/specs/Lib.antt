@@ -1,0 +1,3 @@
+pub mod PlanSlice
+pub mod Holding
+pub mod Texts

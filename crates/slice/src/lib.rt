@@ -1,0 +1,163 @@
+// The plan slice: the tables as handed in, and the log of accepted reports. The plan that it holds is read into arrays.
+mod parts;
+
+use tables::Reading;
+ghost use mathlib.Core.Path.{_≡_};
+ghost use mathlib.Core.Bool.{true, _&&_};
+ghost use mathlib.Core.Option.{some};
+ghost use Prim.Native.Nat.{_≤_};
+ghost use lib.ListN.{length, take, drop};
+ghost use Rattle.tables.specs.Reading.{numbers-of, read-into};
+ghost use Rattle.limits.specs.Limits.{paths-within};
+ghost use Rattle.book.specs.Log.{log-book, is-book};
+ghost use Rattle.slice.specs.PlanSlice.{tables-in, log-in, nothing-else, Held, held};
+ghost use Rattle.slice.specs.Holding.{holding, plan-into};
+
+// What is said of a plan slice: how many roads, carts, steps and reports the plan that it holds has.
+pub enum Holding {
+    TooShort,
+    NoPlan,
+    Held {
+        roads: usize,
+        carts: usize,
+        steps: usize,
+        reports: usize,
+    },
+}
+
+// How a slice is laid out: the lengths of its tables, and how many reports its log has.
+enum Layout {
+    Broken,
+    Parts {
+        roads: usize,
+        carts: usize,
+        paths: usize,
+        reports: usize,
+    },
+}
+
+// Whether paths in an array keep the limits and the n reports of a slice's log are accepted in their turn.
+fn accepts_log(plan: &[u8], n: usize, cells: &[u32], carts: usize, steps: usize) -> bool
+    requires { ⌜ (233472 ≤ length (now plan)) × (n ≤ 4096) ⌝ }
+    ensures { λ r. ⌜ r ≡ (paths-within carts steps (now (cells .entry)) && is-book (log-book carts steps (now (cells .entry)) (take n (drop 196608 (now (plan .entry)))) (drop 200704 (now (plan .entry))))) ⌝ }
+{
+    if !limits::within_limits(cells, carts, steps) {
+        return false;
+    }
+    book::accepts(
+        cells,
+        carts,
+        steps,
+        &plan[196_608..196_608 + n],
+        &plan[200_704..],
+    )
+}
+
+// Reads the tables of a slice, of r, c and p bytes.
+fn read_texts(
+    plan: &[u8],
+    r: usize,
+    c: usize,
+    p: usize,
+    edges: &mut [u32],
+    speeds: &mut [u32],
+    cells: &mut [u32],
+) -> Reading
+    requires { ⌜ (233472 ≤ length (now plan)) × (r ≤ 65536) × (c ≤ 65536) × (p ≤ 65536) ⌝ }
+    ensures answer { λ x. ⌜ x ≡ read-into (take r (now (plan .entry))) (take c (drop 65536 (now (plan .entry)))) (take p (drop 131072 (now (plan .entry)))) (now (edges .entry)) (now (speeds .entry)) (now (cells .entry)) .answer ⌝ }
+    ensures edges { λ _. ⌜ now (edges .exit) ≡ read-into (take r (now (plan .entry))) (take c (drop 65536 (now (plan .entry)))) (take p (drop 131072 (now (plan .entry)))) (now (edges .entry)) (now (speeds .entry)) (now (cells .entry)) .arrays .roads ⌝ }
+    ensures speeds { λ _. ⌜ now (speeds .exit) ≡ read-into (take r (now (plan .entry))) (take c (drop 65536 (now (plan .entry)))) (take p (drop 131072 (now (plan .entry)))) (now (edges .entry)) (now (speeds .entry)) (now (cells .entry)) .arrays .carts ⌝ }
+    ensures cells { λ _. ⌜ now (cells .exit) ≡ read-into (take r (now (plan .entry))) (take c (drop 65536 (now (plan .entry)))) (take p (drop 131072 (now (plan .entry)))) (now (edges .entry)) (now (speeds .entry)) (now (cells .entry)) .arrays .cells ⌝ }
+{
+    tables::read_tables(
+        &plan[..r],
+        &plan[65_536..65_536 + c],
+        &plan[131_072..131_072 + p],
+        edges,
+        speeds,
+        cells,
+    )
+}
+
+// Reads the plan of a slice that is laid out so: what is held, with its numbers in the arrays.
+fn read_parts(
+    plan: &[u8],
+    r: usize,
+    c: usize,
+    p: usize,
+    n: usize,
+    edges: &mut [u32],
+    speeds: &mut [u32],
+    cells: &mut [u32],
+) -> Holding
+    requires { ⌜ (233472 ≤ length (now plan)) × (nothing-else (now plan) (tables-in (now plan)) (log-in (now plan)) ≡ true) ⌝ }
+    requires { ⌜ (r ≡ length (tables-in (now plan) .roads)) × (c ≡ length (tables-in (now plan) .carts)) × (p ≡ length (tables-in (now plan) .paths)) × (n ≡ length (log-in (now plan))) ⌝ }
+    requires { ⌜ (4096 ≤ length (now edges)) × (128 ≤ length (now speeds)) × (8192 ≤ length (now cells)) ⌝ }
+    ensures answer { λ x. ⌜ x ≡ holding (held (now (plan .entry))) ⌝ }
+    ensures left { λ _. ⌜ ((h : Held) → held (now (plan .entry)) ≡ some h → numbers-of (record { roads = now (edges .entry); carts = now (speeds .entry); cells = now (cells .entry) }) (h .plan) ≡ record { roads = now (edges .exit); carts = now (speeds .exit); cells = now (cells .exit) }) ⌝ }
+{
+    let x = read_texts(plan, r, c, p, edges, speeds, cells);
+    match x {
+        Reading::Refused(_) => Holding::NoPlan,
+        Reading::TooShort => Holding::NoPlan,
+        Reading::Read {
+            roads: i,
+            carts: j,
+            steps: w,
+        } => {
+            if accepts_log(plan, n, cells, j, w) {
+                return Holding::Held {
+                    roads: i,
+                    carts: j,
+                    steps: w,
+                    reports: n,
+                };
+            }
+            Holding::NoPlan
+        }
+    }
+}
+
+// Reads the plan that a slice holds, if it holds one, into arrays that have room.
+fn read_held(plan: &[u8], edges: &mut [u32], speeds: &mut [u32], cells: &mut [u32]) -> Holding
+    requires { ⌜ (233472 ≤ length (now plan)) × (4096 ≤ length (now edges)) × (128 ≤ length (now speeds)) × (8192 ≤ length (now cells)) ⌝ }
+    ensures answer { λ x. ⌜ x ≡ holding (held (now (plan .entry))) ⌝ }
+    ensures left { λ _. ⌜ ((h : Held) → held (now (plan .entry)) ≡ some h → numbers-of (record { roads = now (edges .entry); carts = now (speeds .entry); cells = now (cells .entry) }) (h .plan) ≡ record { roads = now (edges .exit); carts = now (speeds .exit); cells = now (cells .exit) }) ⌝ }
+{
+    let x = parts::find_parts(plan);
+    match x {
+        Layout::Broken => Holding::NoPlan,
+        Layout::Parts {
+            roads: r,
+            carts: c,
+            paths: p,
+            reports: n,
+        } => read_parts(plan, r, c, p, n, edges, speeds, cells),
+    }
+}
+
+// Reads the plan that a slice holds: its tables are judged again, its log is replayed, and there may be nothing else.
+pub fn read_plan(plan: &[u8], edges: &mut [u32], speeds: &mut [u32], cells: &mut [u32]) -> Holding
+    ensures answer { λ r. ⌜ r ≡ plan-into (now (plan .entry)) (now (edges .entry)) (now (speeds .entry)) (now (cells .entry)) .answer ⌝ }
+    ensures left { λ _. ⌜ now (edges .exit) ≡ plan-into (now (plan .entry)) (now (edges .entry)) (now (speeds .entry)) (now (cells .entry)) .arrays .roads ⌝ }
+    ensures left_speeds { λ _. ⌜ now (speeds .exit) ≡ plan-into (now (plan .entry)) (now (edges .entry)) (now (speeds .entry)) (now (cells .entry)) .arrays .carts ⌝ }
+    ensures left_cells { λ _. ⌜ now (cells .exit) ≡ plan-into (now (plan .entry)) (now (edges .entry)) (now (speeds .entry)) (now (cells .entry)) .arrays .cells ⌝ }
+{
+    if plan.len() < 233_472 {
+        return Holding::TooShort;
+    }
+    if edges.len() < 4096 {
+        return Holding::TooShort;
+    }
+    if speeds.len() < 128 {
+        return Holding::TooShort;
+    }
+    if cells.len() < 8192 {
+        return Holding::TooShort;
+    }
+    let x = read_held(plan, edges, speeds, cells);
+    if let Holding::NoPlan = x {
+        tables::clear_all(edges, speeds, cells);
+    }
+    x
+}

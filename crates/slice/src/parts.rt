@@ -1,0 +1,82 @@
+// How a plan slice is laid out: each of its parts is bytes other than zero, and zeros after them.
+use crate::Layout;
+ghost use mathlib.Core.Path.{_≡_};
+ghost use Prim.Native.Nat.{_≤_};
+ghost use lib.ListN.{length, drop};
+ghost use Rattle.slice.specs.PlanSlice.{until-zero};
+ghost use Rattle.slice.specs.Holding.{only-zeros, layout};
+ghost use Rattle.slice.specs.Texts.{texts-laid};
+
+// How many bytes stand before the first zero.
+fn text_length(s: &[u8]) -> usize
+    ensures { λ r. ⌜ r ≡ length (until-zero (now (s .entry))) ⌝ }
+{
+    let mut i = 0;
+    while i < s.len() {
+        if s[i] == 0 {
+            return i;
+        }
+        i += 1;
+    }
+    i
+}
+
+// Whether there is nothing but zeros from this place on.
+fn all_zero(s: &[u8], from: usize) -> bool
+    ensures { λ r. ⌜ r ≡ only-zeros (drop from (now (s .entry))) ⌝ }
+{
+    let mut i = from;
+    while i < s.len() {
+        if s[i] != 0 {
+            return false;
+        }
+        i += 1;
+    }
+    true
+}
+
+// The lengths of four texts, the last of which has a time for each byte, if zeros follow each and the times.
+fn find_texts(roads: &[u8], carts: &[u8], paths: &[u8], log: &[u8], times: &[u8]) -> Layout
+    requires { ⌜ length (now log) ≤ 4096 ⌝ }
+    ensures { λ r. ⌜ r ≡ texts-laid (now (roads .entry)) (now (carts .entry)) (now (paths .entry)) (now (log .entry)) (now (times .entry)) ⌝ }
+{
+    let r = text_length(roads);
+    let c = text_length(carts);
+    let p = text_length(paths);
+    let n = text_length(log);
+    if !all_zero(roads, r) {
+        return Layout::Broken;
+    }
+    if !all_zero(carts, c) {
+        return Layout::Broken;
+    }
+    if !all_zero(paths, p) {
+        return Layout::Broken;
+    }
+    if !all_zero(log, n) {
+        return Layout::Broken;
+    }
+    if !all_zero(times, 8 * n) {
+        return Layout::Broken;
+    }
+    Layout::Parts {
+        roads: r,
+        carts: c,
+        paths: p,
+        reports: n,
+    }
+}
+
+// Where the parts of a plan slice end, if there is nothing else in it.
+pub(crate) fn find_parts(plan: &[u8]) -> Layout
+    requires { ⌜ 233472 ≤ length (now plan) ⌝ }
+    ensures { λ r. ⌜ r ≡ layout (now (plan .entry)) ⌝ }
+{
+    find_texts(
+        &plan[..65_536],
+        &plan[65_536..131_072],
+        &plan[131_072..196_608],
+        &plan[196_608..200_704],
+        &plan[200_704..],
+    )
+}
