@@ -1,0 +1,12 @@
+pub mod Fitting
+pub mod Marks
+pub mod Codes
+pub mod Arcs
+pub mod BothWays
+pub mod ParentArcs
+pub mod Cycles
+pub mod Timing
+pub mod Outcomes
+pub mod Copying
+pub mod Running
+pub mod Networks

@@ -1,0 +1,3 @@
+pub mod Solving
+pub mod Marks
+pub mod Places

@@ -1,0 +1,212 @@
+// Times of a network of bounds, by passes over its arcs, or a chain. The bounds are in two arrays: the events that each goes from and
+// to, and its lo and one more than its hi, 0 where hi is none. What is answered and written is defined in specs/.
+mod links;
+mod passing;
+
+ghost use mathlib.Core.Path.{_≡_};
+ghost use Prim.Native.Nat.{_+_, _*_, _≤_, _<_};
+ghost use lib.ListN.{length, replicate};
+ghost use Rattle.network.specs.BoundArrays.{bounds-in};
+ghost use mathlib.Core.Bool.{true};
+ghost use mathlib.Core.List.{map};
+ghost use Rattle.words.specs.Words.{words, written};
+ghost use Rattle.walks.specs.Passes.{at-start};
+ghost use Rattle.schedule.specs.Timetable.{time};
+ghost use Rattle.passes.specs.Solving.{network-fits, Solves, Solving};
+ghost use Rattle.passes.specs.Marks.{sum-at, sums-in};
+
+// What is found: times after so many passes, or a closed chain of bounds of this length and cost.
+pub enum Solved {
+    Unfit,
+    Times { passes: usize },
+    Cycle { length: usize, cost: i64 },
+}
+
+// How the passes end: settled after so many, or an event that the last of them still raised.
+enum Run {
+    Settled(usize),
+    Raised(usize),
+}
+
+// A chain found: its length and its cost.
+struct Chain {
+    length: usize,
+    cost: i64,
+}
+
+// Whether the arrays hold a network: as many bounds as may be, each between two of the events, and none too large.
+fn is_network(ends: &[u16], ranges: &[u64], bounds: usize, events: usize) -> bool
+    ensures { λ r. ⌜ r ≡ network-fits bounds events (now (ends .entry)) (now (ranges .entry)) ⌝ }
+{
+    if 12_288 < bounds {
+        return false;
+    }
+    if ends.len() < 2 * bounds {
+        return false;
+    }
+    if ranges.len() < 2 * bounds {
+        return false;
+    }
+    if events == 0 {
+        return false;
+    }
+    if 4096 < events {
+        return false;
+    }
+    let mut i = 0;
+    while i < bounds {
+        if events <= ends[2 * i] as usize {
+            return false;
+        }
+        if events <= ends[2 * i + 1] as usize {
+            return false;
+        }
+        if 1_000_000_000_000 < ranges[2 * i] {
+            return false;
+        }
+        if 1_000_000_000_001 < ranges[2 * i + 1] {
+            return false;
+        }
+        i += 1;
+    }
+    true
+}
+
+// The time of a sum: 0 for one that is none or below 0.
+fn time_of(sum: i64) -> u64
+    ensures { λ r. ⌜ r ≡ time (sum-at sum) ⌝ }
+{
+    if 0 < sum {
+        return sum as u64;
+    }
+    0
+}
+
+// Writes the times of sums to the front of a slice.
+fn write_times(sums: &[i64], times: &mut [u8])
+    requires { ⌜ 8 * length (now sums) ≤ length (now times) ⌝ }
+    ensures { λ _. ⌜ now (times .exit) ≡ written (words 8 (map time (sums-in (now (sums .entry))))) (now (times .entry)) ⌝ }
+{
+    let mut i = 0;
+    while i < sums.len() {
+        let sum = sums[i];
+        let t = time_of(sum);
+        words::put64(times, i, t);
+        i += 1;
+    }
+}
+
+// The passes, from sums and parents as they are at first, and what comes of them.
+fn times_or_chain(
+    ends: &[u16],
+    ranges: &[u64],
+    own: usize,
+    bounds: usize,
+    old: &mut [i64],
+    new: &mut [i64],
+    parents: &mut [u16],
+    times: &mut [u8],
+    numbers: &mut [u8],
+    directions: &mut [u8],
+) -> Solved
+    requires { ⌜ network-fits bounds (length (now old)) (now ends) (now ranges) ≡ true ⌝ }
+    requires { ⌜ (sums-in (now old) ≡ at-start (length (now old))) × (now new ≡ now old) × (now parents ≡ replicate (length (now old)) 0) ⌝ }
+    requires { ⌜ (32768 ≤ length (now times)) × (8192 ≤ length (now numbers)) × (4096 ≤ length (now directions)) ⌝ }
+    ensures { λ r. ⌜ Solves own (length (now (old .entry))) (bounds-in bounds (now (ends .entry)) (now (ranges .entry)))
+        (record { times = now (times .entry); chain-bounds = now (numbers .entry); chain-directions = now (directions .entry) })
+        r
+        (record { times = now (times .exit); chain-bounds = now (numbers .exit); chain-directions = now (directions .exit) }) ⌝ }
+{
+    let x = passing::run(ends, ranges, bounds, old, new, parents);
+    match x {
+        Run::Settled(k) => {
+            write_times(old, times);
+            Solved::Times { passes: k }
+        }
+        Run::Raised(v) => {
+            let at = links::back(ends, ranges, bounds, parents, v);
+            let c = links::write_chain(ends, ranges, bounds, own, parents, at, numbers, directions);
+            Solved::Cycle {
+                length: c.length,
+                cost: c.cost,
+            }
+        }
+    }
+}
+
+// The same, with working memory of its own.
+fn find(
+    ends: &[u16],
+    ranges: &[u64],
+    own: usize,
+    bounds: usize,
+    events: usize,
+    times: &mut [u8],
+    numbers: &mut [u8],
+    directions: &mut [u8],
+) -> Solved
+    requires { ⌜ network-fits bounds events (now ends) (now ranges) ≡ true ⌝ }
+    requires { ⌜ (32768 ≤ length (now times)) × (8192 ≤ length (now numbers)) × (4096 ≤ length (now directions)) ⌝ }
+    ensures { λ r. ⌜ Solves own events (bounds-in bounds (now (ends .entry)) (now (ranges .entry)))
+        (record { times = now (times .entry); chain-bounds = now (numbers .entry); chain-directions = now (directions .entry) })
+        r
+        (record { times = now (times .exit); chain-bounds = now (numbers .exit); chain-directions = now (directions .exit) }) ⌝ }
+{
+    let mut old = [-4_611_686_018_427_387_904i64; 4096];
+    let mut new = [-4_611_686_018_427_387_904i64; 4096];
+    let mut parents = [0u16; 4096];
+    old[0] = 0;
+    new[0] = 0;
+    times_or_chain(
+        ends,
+        ranges,
+        own,
+        bounds,
+        &mut old[..events],
+        &mut new[..events],
+        &mut parents[..events],
+        times,
+        numbers,
+        directions,
+    )
+}
+
+// Finds the times of `bounds` bounds among `events` events, the first `own` of them numbered from 0, and writes them; or a chain.
+pub fn solve(
+    ends: &[u16],
+    ranges: &[u64],
+    own: usize,
+    bounds: usize,
+    events: usize,
+    times: &mut [u8],
+    numbers: &mut [u8],
+    directions: &mut [u8],
+) -> Solved
+    ensures { λ r. ⌜ Solving own bounds events (now (ends .entry)) (now (ranges .entry))
+        (record { times = now (times .entry); chain-bounds = now (numbers .entry); chain-directions = now (directions .entry) })
+        r
+        (record { times = now (times .exit); chain-bounds = now (numbers .exit); chain-directions = now (directions .exit) }) ⌝ }
+{
+    if !is_network(ends, ranges, bounds, events) {
+        return Solved::Unfit;
+    }
+    if times.len() < 32_768 {
+        return Solved::Unfit;
+    }
+    if numbers.len() < 8_192 {
+        return Solved::Unfit;
+    }
+    if directions.len() < 4_096 {
+        return Solved::Unfit;
+    }
+    find(
+        ends,
+        ranges,
+        own,
+        bounds,
+        events,
+        times,
+        numbers,
+        directions,
+    )
+}
