@@ -20,7 +20,7 @@ use Rattle.network.specs.Bounds.{bounds}
 use Rattle.network.specs.Judge.{within-limits, judge}
 use Rattle.hegtalim.specs.declared.Loaded.{Loaded}
 use Rattle.hegtalim.specs.Answers.{plain, loaded-answer, c-number}
-use Rattle.hegtalim.specs.PlanSlice.{plan-need}
+use Rattle.slice.specs.PlanSlice.{plan-need}
 use Rattle.hegtalim.specs.Outcomes.{Load, load-judged, load}
 
 -- a refusal names a record up to the 8,193th: those of the last limits name none

@@ -14,9 +14,9 @@ use Rattle.network.specs.Judge.{judge}
 use Rattle.schedule.specs.Book.{Report, Book, first-book, replay, has-next, in-time, acceptable}
 use Rattle.hegtalim.specs.declared.Loaded.{Loaded}
 use Rattle.hegtalim.specs.declared.Reported.{Reported}
-use Rattle.hegtalim.specs.PlanSlice.{plan-need, plan-slice, Held, held}
+use Rattle.slice.specs.PlanSlice.{plan-need, plan-slice, Held, held}
 use Rattle.hegtalim.specs.Outcomes.{Load, load-judged, load, Reporting, book-answer, report-held, report}
-use Rattle.hegtalim.proofs.Slice.{held-slice, slice-length}
+use Rattle.slice.proofs.Slice.{held-slice, slice-length}
 
 -- ---- load
 

@@ -25,9 +25,11 @@ use Rattle.schedule.proofs.ChainSizes.{chain-short}
 use Rattle.hegtalim.specs.declared.Loaded.{Loaded}
 use Rattle.hegtalim.specs.declared.Reported.{Reported}
 use Rattle.hegtalim.specs.declared.Timed.{Timed}
-use Rattle.hegtalim.specs.PlanSlice.{plan-need, times-need, chain-bounds-need, chain-directions-need, plan-slice, Held, held}
-use Rattle.hegtalim.specs.Outcomes.{Load, load-judged, load, Reporting, report-held, report, Lent, long-enough, meets-needs, times-written, chain-written, Timetabled, too-short, no-plan, timed, no-times}
-use Rattle.hegtalim.proofs.Slice.{slice-length, held-says}
+use Rattle.slice.specs.PlanSlice.{plan-need, plan-slice, Held, held}
+use Rattle.hegtalim.specs.Outcomes.{times-need, chain-bounds-need, chain-directions-need}
+use Rattle.schedule.specs.Lent.{Lent, times-written, chain-written}
+use Rattle.hegtalim.specs.Outcomes.{Load, load-judged, load, Reporting, report-held, report, long-enough, meets-needs, Timetabled, too-short, no-plan, timed, no-times}
+use Rattle.slice.proofs.Slice.{slice-length, held-says}
 
 -- ---- load and report
 

@@ -22,7 +22,7 @@ use Rattle.network.specs.Judge.{within-limits, judge}
 use Rattle.limits.specs.Limits.{limits-kept, paths-within}
 use Rattle.limits.proofs.Kept.{within-kept, within-over, paths-within-is}
 use Rattle.hegtalim.specs.declared.Loaded.{Loaded}
-use Rattle.hegtalim.specs.PlanSlice.{plan-slice}
+use Rattle.slice.specs.PlanSlice.{plan-slice}
 use Rattle.hegtalim.specs.Outcomes.{Load, load-judged, load}
 
 -- ---- the judgement

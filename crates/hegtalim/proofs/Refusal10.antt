@@ -13,10 +13,10 @@ use Rattle.network.specs.Judge.{judge}
 use Rattle.schedule.specs.Book.{Report, Book, first-book, acceptable, pass-next, replay}
 use Rattle.schedule.proofs.Log.{replay-first, replay-snoc}
 use Rattle.hegtalim.specs.declared.Loaded.{Loaded}
-use Rattle.hegtalim.specs.PlanSlice.{plan-need, plan-slice, Held, held}
+use Rattle.slice.specs.PlanSlice.{plan-need, plan-slice, Held, held}
 use Rattle.hegtalim.specs.Outcomes.{Load, load, Reporting, book-answer, report}
 use Rattle.hegtalim.specs.Claim.{Left, by-load, by-report, Refusal-10}
-use Rattle.hegtalim.proofs.Slice.{held-slice, held-says}
+use Rattle.slice.proofs.Slice.{held-slice, held-says}
 use Rattle.hegtalim.proofs.Calls.{load-accepted, load-held, answered-taken, report-slice, report-taken}
 
 -- the log of a load is empty, and is replayed

@@ -19,8 +19,9 @@ use Rattle.hegtalim.specs.declared.Timed.{Timed}
 use Rattle.words.specs.Words.{open-words}
 use Rattle.schedule.specs.Open.{open-schedule}
 use Rattle.hegtalim.specs.Answers.{open-answers, loaded-answer, reported-answer, timed-answer, c-number}
-use Rattle.hegtalim.specs.PlanSlice.{plan-slice}
-use Rattle.hegtalim.specs.Outcomes.{open-outcomes, load, load-judged, report, report-held, Lent, long-enough, times-written, chain-written, Timetabled, too-short}
+use Rattle.slice.specs.PlanSlice.{plan-slice}
+use Rattle.schedule.specs.Lent.{Lent, times-written, chain-written}
+use Rattle.hegtalim.specs.Outcomes.{open-outcomes, load, load-judged, report, report-held, long-enough, Timetabled, too-short}
 
 -- each reason has the document's number
 reasons-follow : map (λ (why : Reason). loaded-answer (Loaded.Refused (record { reason = why; table = Paths; row = 7 })) .refusal)

@@ -11,7 +11,7 @@ use Rattle.csv.proofs.Reading.{rest-is}
 use Rattle.words.specs.Words.{words, written, padded}
 use Rattle.words.proofs.Padding.{padded-none, padded-length, written-zeros, padded-split}
 use Rattle.floor.specs.Tables.{Tables}
-use Rattle.hegtalim.specs.PlanSlice.{plan-slice}
+use Rattle.slice.specs.PlanSlice.{plan-slice}
 
 -- ---- a byte more
 

@@ -24,8 +24,9 @@ use Rattle.schedule.specs.Chain.{Item, direction-number, is-chain}
 use Rattle.hegtalim.specs.declared.Loaded.{Loaded}
 use Rattle.hegtalim.specs.declared.Reported.{Reported}
 use Rattle.hegtalim.specs.declared.Timed.{Timed}
-use Rattle.hegtalim.specs.PlanSlice.{Held, held}
-use Rattle.hegtalim.specs.Outcomes.{load, book-answer, report, Lent, long-enough, Timetabled}
+use Rattle.slice.specs.PlanSlice.{Held, held}
+use Rattle.schedule.specs.Lent.{Lent}
+use Rattle.hegtalim.specs.Outcomes.{load, book-answer, report, long-enough, Timetabled}
 
 -- ---- the list of calls
 

@@ -1,24 +1,25 @@
 -- What each call answers and leaves in the slices lent to it, on all input (document 01, "Turned down because of the input" and "… of the state").
 -- Assumes nothing.
-use Prim.Native.Nat.{ℕ}
+use Prim.Native.Nat.{ℕ, _*_}
 use mathlib.Core.Path.{_≡_}
 use mathlib.Core.Bool.{Bool, true, false, _&&_, cond}
-use mathlib.Core.List.{List, [], _∷_, _++_, map}
+use mathlib.Core.List.{List, [], _∷_, _++_}
 use mathlib.Core.Option.{Option, none, some}
 use lib.Dec.{T, leb}
 use lib.ListN.{length, replicate}
-use Rattle.words.specs.Words.{words, written}
 use Rattle.floor.specs.Refusal.{Judged, refused, accepted}
 use Rattle.floor.specs.Plan.{Plan}
 use Rattle.floor.specs.Tables.{Tables}
 use Rattle.network.specs.Judge.{judge}
 use Rattle.schedule.specs.Book.{Report, Book, has-next, in-time, acceptable}
 use Rattle.schedule.specs.Timetable.{Timetable, timetable}
-use Rattle.schedule.specs.Chain.{Item, direction-number, is-chain}
+use Rattle.schedule.specs.Chain.{Item, is-chain}
+use Rattle.schedule.specs.Lent.{Lent, times-written, chain-written}
 use Rattle.hegtalim.specs.declared.Loaded.{Loaded}
 use Rattle.hegtalim.specs.declared.Reported.{Reported}
 use Rattle.hegtalim.specs.declared.Timed.{Timed}
-use Rattle.hegtalim.specs.PlanSlice.{plan-need, times-need, chain-bounds-need, chain-directions-need, plan-slice, Held, held}
+use Rattle.hegtalim.specs.Answers.{timed-answer, c-number}
+use Rattle.slice.specs.PlanSlice.{plan-need, plan-slice, Held, held}
 
 -- ---- load
 
@@ -70,11 +71,17 @@ report s r =
 
 -- ---- timetable
 
--- the slices lent to a timetable for writing
-pub record Lent : Type 0 where
-  pub times : List ℕ
-  pub chain-bounds : List ℕ
-  pub chain-directions : List ℕ
+-- "docs/ lists each need": a times slice's is 8 an event
+abbrev pub times-need : ℕ
+times-need = 8 * 4096
+
+-- "chain slices: the event limit": 2 an item for the bounds' numbers
+abbrev pub chain-bounds-need : ℕ
+chain-bounds-need = 2 * 4096
+
+-- and 1 an item for the directions
+abbrev pub chain-directions-need : ℕ
+chain-directions-need = 4096
 
 -- its own slices meet their needs
 unfoldable pub long-enough : Lent → Bool
@@ -85,20 +92,6 @@ long-enough l =
 -- and so does the plan slice
 unfoldable pub meets-needs : List ℕ → Lent → Bool
 meets-needs s l = leb plan-need (length s) && long-enough l
-
--- "A timetable that succeeds writes the events' places of the times slice and … nothing else."
-unfoldable pub times-written : Timetable → Lent → Lent
-times-written t l =
-    record { times = written (words 8 (t .times)) (l .times); chain-bounds = l .chain-bounds; chain-directions = l .chain-directions }
-
--- "the chain is written to the front of its slices …; the chain slices' other places and the times slice stay as they came"
-unfoldable pub chain-written : List Item → Lent → Lent
-chain-written is l =
-    record {
-      times = l .times;
-      chain-bounds = written (words 2 (map (λ (i : Item). i .number) is)) (l .chain-bounds);
-      chain-directions = written (map (λ (i : Item). direction-number (i .direction)) is) (l .chain-directions);
-    }
 
 -- "Order: 14, 10, …, 13": a timetable that gets the plan slice s, which it cannot write, and these slices, its answer, and the slices as it leaves
 -- them. Which chain comes back is free, and nothing else
@@ -113,7 +106,13 @@ pub data Timetabled (s : List ℕ) (l : Lent) : Timed → Lent → Type 0 where
       → (is : List Item) → T (is-chain (h .plan) (h .book) is)
       → Timetabled s l (Timed.NoTimes (length is)) (chain-written is l)
 
+-- the same, with the one number that a C function returns for the answer
+pub record TimetabledNumber (s : List ℕ) (l : Lent) (number : ℕ) (l′ : Lent) : Type 0 where
+  pub answer : Timed
+  pub outcome : Timetabled s l answer l′
+  pub number-is : number ≡ c-number (timed-answer answer)
+
 -- Names every definition of this module, for a proof that computes with them all.
 unfoldable pub open-outcomes : Unit {0}
-unfolding load-judged load book-answer report-held report long-enough meets-needs times-written chain-written
+unfolding load-judged load book-answer report-held report long-enough meets-needs
 open-outcomes = tt

@@ -2,7 +2,9 @@
 use floor::Reason;
 use floor::Refusal;
 use floor::Table;
+use passes::Solved;
 use tables::Reading;
+use timing::Bounding;
 ghost use mathlib.Core.Path.{_≡_};
 ghost use mathlib.Core.List.{[]};
 ghost use Prim.Native.Nat.{_≤_, _<_};
@@ -14,9 +16,9 @@ ghost use Rattle.floor.specs.Tables.{read-tables};
 ghost use Rattle.tables.specs.Arrays.{path-cells};
 ghost use Rattle.tables.specs.Reading.{read-answer};
 ghost use Rattle.network.specs.Judge.{judge};
-ghost use Rattle.hegtalim.specs.Answers.{loaded-answer, c-number};
-ghost use Rattle.hegtalim.specs.PlanSlice.{plan-slice};
-ghost use Rattle.hegtalim.specs.Outcomes.{load-judged, load};
+ghost use Rattle.hegtalim.specs.Answers.{loaded-answer, timed-answer, c-number};
+ghost use Rattle.slice.specs.PlanSlice.{plan-slice};
+ghost use Rattle.hegtalim.specs.Outcomes.{load-judged, load, Timetabled, TimetabledNumber};
 
 // What a load answers; specs/Answers.antt gives each case of each answer its number and values.
 pub enum Loaded {
@@ -133,6 +135,57 @@ pub fn load(roads: &[u8], carts: &[u8], paths: &[u8], plan: &mut [u8]) -> Loaded
     }
 }
 
+// The times of the plan that a slice holds, or a chain.
+fn time_plan(plan: &[u8], times: &mut [u8], numbers: &mut [u8], directions: &mut [u8]) -> Timed
+    requires { ⌜ (233472 ≤ length (now plan)) × (32768 ≤ length (now times)) × (8192 ≤ length (now numbers)) × (4096 ≤ length (now directions)) ⌝ }
+    ensures { λ r. ⌜ Timetabled (now (plan .entry))
+        (record { times = now (times .entry); chain-bounds = now (numbers .entry); chain-directions = now (directions .entry) })
+        r
+        (record { times = now (times .exit); chain-bounds = now (numbers .exit); chain-directions = now (directions .exit) }) ⌝ }
+{
+    let mut ends = [0u16; 24576];
+    let mut ranges = [0u64; 24576];
+    let x = timing::write_held(plan, &mut ends, &mut ranges);
+    match x {
+        Bounding::TooShort => Timed::TooShort,
+        Bounding::NoPlan => Timed::NoPlan,
+        Bounding::Bounds {
+            events: n,
+            own: m,
+            all: k,
+        } => {
+            let y = passes::solve(&ends, &ranges, m, k, n, times, numbers, directions);
+            match y {
+                Solved::Unfit => Timed::TooShort,
+                Solved::Times { passes: j } => Timed::Times { passes: j },
+                Solved::Cycle { length: j, cost: _ } => Timed::NoTimes { length: j },
+            }
+        }
+    }
+}
+
+// Times a plan: earliest times and the number of passes, or a chain.
+pub fn timetable(plan: &[u8], times: &mut [u8], numbers: &mut [u8], directions: &mut [u8]) -> Timed
+    ensures { λ r. ⌜ Timetabled (now (plan .entry))
+        (record { times = now (times .entry); chain-bounds = now (numbers .entry); chain-directions = now (directions .entry) })
+        r
+        (record { times = now (times .exit); chain-bounds = now (numbers .exit); chain-directions = now (directions .exit) }) ⌝ }
+{
+    if plan.len() < 233_472 {
+        return Timed::TooShort;
+    }
+    if times.len() < 32_768 {
+        return Timed::TooShort;
+    }
+    if numbers.len() < 8_192 {
+        return Timed::TooShort;
+    }
+    if directions.len() < 4_096 {
+        return Timed::TooShort;
+    }
+    time_plan(plan, times, numbers, directions)
+}
+
 // The one number that a C function returns for a load's answer.
 fn loaded_number(x: Loaded) -> u64
     requires { ⌜ loaded-answer x .value < 4294967296 ⌝ }
@@ -158,4 +211,34 @@ pub extern "C" fn hegtalim_load(roads: &[u8], carts: &[u8], paths: &[u8], plan: 
 {
     let x = load(roads, carts, paths, plan);
     loaded_number(x)
+}
+
+// The one number that a C function returns for a timetable's answer.
+fn timed_number(x: Timed) -> u64
+    requires { ⌜ timed-answer x .value < 4294967296 ⌝ }
+    ensures { λ r. ⌜ r ≡ c-number (timed-answer x) ⌝ }
+{
+    match x {
+        Timed::Times { passes: k } => 4_294_967_296 * (k as u64),
+        Timed::TooShort => 14,
+        Timed::NoPlan => 10,
+        Timed::NoTimes { length: n } => 13 + 4_294_967_296 * (n as u64),
+    }
+}
+
+// `timetable` for a program in C.
+#[no_mangle]
+pub extern "C" fn hegtalim_timetable(
+    plan: &[u8],
+    times: &mut [u8],
+    numbers: &mut [u8],
+    directions: &mut [u8],
+) -> u64
+    ensures { λ r. ⌜ TimetabledNumber (now (plan .entry))
+        (record { times = now (times .entry); chain-bounds = now (numbers .entry); chain-directions = now (directions .entry) })
+        r
+        (record { times = now (times .exit); chain-bounds = now (numbers .exit); chain-directions = now (directions .exit) }) ⌝ }
+{
+    let x = timetable(plan, times, numbers, directions);
+    timed_number(x)
 }

@@ -5,8 +5,9 @@ use mathlib.Core.List.{[]}
 use mathlib.Core.Option.{none, some}
 use lib.ListN.{set}
 use Rattle.hegtalim.specs.declared.Timed.{Timed}
-use Rattle.hegtalim.specs.PlanSlice.{held}
-use Rattle.hegtalim.specs.Outcomes.{Timetabled, timed, no-times, times-written, chain-written}
+use Rattle.slice.specs.PlanSlice.{held}
+use Rattle.schedule.specs.Lent.{times-written, chain-written}
+use Rattle.hegtalim.specs.Outcomes.{Timetabled, timed, no-times}
 use Rattle.hegtalim.specs.Open.{open-hegtalim}
 use Rattle.rows.specs.Starred.{open-starred, too-early}
 use Rattle.rows.specs.Slices.{open-slices, slice, two-reports, held-at-first, held-later, lent, times}

@@ -8,8 +8,9 @@ use Rattle.floor.specs.Plan.{Plan}
 use Rattle.floor.specs.Examples.{A-to-B}
 use Rattle.schedule.specs.Book.{Report, _at_, Book}
 use Rattle.schedule.specs.Timetable.{Timetable}
-use Rattle.hegtalim.specs.PlanSlice.{plan-need, times-need, chain-bounds-need, chain-directions-need, plan-slice, Held}
-use Rattle.hegtalim.specs.Outcomes.{Lent}
+use Rattle.slice.specs.PlanSlice.{plan-need, plan-slice, Held}
+use Rattle.hegtalim.specs.Outcomes.{times-need, chain-bounds-need, chain-directions-need}
+use Rattle.schedule.specs.Lent.{Lent}
 
 -- the plan slice with this log
 unfoldable pub slice : List Report → List ℕ

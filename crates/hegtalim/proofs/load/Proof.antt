@@ -6,8 +6,8 @@ use mathlib.Core.List.{[]}
 use lib.ListN.{length, length-replicate}
 use Rattle.floor.specs.Tables.{Tables}
 use Rattle.tables.proofs.TablesRead.{blank}
-use Rattle.hegtalim.specs.PlanSlice.{plan-slice}
-use Rattle.hegtalim.proofs.Slice.{judged-fit}
+use Rattle.slice.specs.PlanSlice.{plan-slice}
+use Rattle.slice.proofs.Slice.{judged-fit}
 use Rattle.hegtalim.proofs.Loading.{held-said, short-said, loads-short, loads-refused, loads-held}
 use borrow.Author.Needs.{needs}
 use Rattle.hegtalim.proofs.load.Statement.{statement}
