@@ -14,15 +14,28 @@ extern "C" {
 /* The least number of bytes of a plan slice, in every call. A longer one is fine. */
 #define HEGTALIM_PLAN_NEED 233472
 
+/* The least numbers of bytes of a timetable's other slices: 8 an event, 2 and 1 an item of a chain. */
+#define HEGTALIM_TIMES_NEED 32768
+#define HEGTALIM_CHAIN_BOUNDS_NEED 8192
+#define HEGTALIM_CHAIN_DIRECTIONS_NEED 4096
+
 /* The parts of a call's answer. */
 #define HEGTALIM_REFUSAL(answer) ((unsigned)((answer) & 0xff))    /* 0: none */
 #define HEGTALIM_TABLE(answer) ((unsigned)((answer) >> 8 & 0xff)) /* 1 roads, 2 carts, 3 paths, 0 none */
-#define HEGTALIM_VALUE(answer) ((uint32_t)((answer) >> 32))       /* a load's record: from 1, without the first line; 0 none */
+/* A load's record: from 1, without the first line; 0 none. A timetable's number of passes, or of its chain's items (13). */
+#define HEGTALIM_VALUE(answer) ((uint32_t)((answer) >> 32))
 
 /* Loads a plan: reads the bytes of roads.csv, carts.csv and paths.csv and judges them.
    Refusal 0: the plan slice holds the plan. 14: it is too short, and is as it came. 1 to 9: it is zero, every byte. */
 uint64_t hegtalim_load(const uint8_t *roads, size_t roads_len, const uint8_t *carts, size_t carts_len,
                        const uint8_t *paths, size_t paths_len, uint8_t *plan, size_t plan_len);
+
+/* Times the plan that is held. Numbers in slices are little-endian.
+   Refusal 0: the times slice begins with the time of each event, in milliseconds, 8 bytes each. 13: no times exist; the chain slices begin with the
+   items of a chain, the bound's number in 2 bytes, the direction in 1. 10: the plan slice holds no plan. 14: a slice is too short.
+   Nothing else is written; the plan slice is only read. */
+uint64_t hegtalim_timetable(const uint8_t *plan, size_t plan_len, uint8_t *times, size_t times_len,
+                            uint8_t *chain_bounds, size_t chain_bounds_len, uint8_t *chain_directions, size_t chain_directions_len);
 
 #ifdef __cplusplus
 }

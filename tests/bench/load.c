@@ -3,41 +3,10 @@
    slice, judges the tables and stores them; the parser writes to arrays that are not cleared.
    Usage: load [REPETITIONS]. Fails where the two sides don't read the same plan. */
 #define _POSIX_C_SOURCE 200809L
-#include <time.h>
-
 #include "../../include/hegtalim.h"
-#include "../plans.h"
-
-/* ---- the plain parser */
-
-struct numbers {
-    size_t roads, carts, cells;
-    uint32_t road[1024][4], cart[64][2], cell[8192];
-};
-
-/* reads a number and skips what ends it: a comma, or CR LF */
-static const uint8_t *read_number(const uint8_t *at, const uint8_t *end, uint32_t *n) {
-    uint32_t v = 0;
-    while (at < end && *at >= '0')
-        v = 10 * v + (*at++ - '0');
-    *n = v;
-    return at < end && *at == '\r' ? at + 2 : at + 1;
-}
-
-static void parse(const uint8_t *roads, size_t roads_len, const uint8_t *carts, size_t carts_len, const uint8_t *paths, size_t paths_len,
-                  struct numbers *to) {
-    const uint8_t *at = roads + strlen("from,to,length,margin\r\n"), *end = roads + roads_len;
-    for (to->roads = 0; at < end; to->roads++)
-        for (unsigned i = 0; i < 4; i++)
-            at = read_number(at, end, &to->road[to->roads][i]);
-    at = carts + strlen("fastest,slowest\r\n"), end = carts + carts_len;
-    for (to->carts = 0; at < end; to->carts++)
-        for (unsigned i = 0; i < 2; i++)
-            at = read_number(at, end, &to->cart[to->carts][i]);
-    at = paths, end = paths + paths_len;
-    for (to->cells = 0; at < end; to->cells++)
-        at = read_number(at, end, &to->cell[to->cells]);
-}
+#include "../common/numbers.h"
+#include "../common/plans.h"
+#include "clock.h"
 
 /* ---- the two sides */
 
@@ -71,12 +40,6 @@ static void same_plan(const struct plan *p, unsigned carts) {
 }
 
 /* ---- times */
-
-static double microseconds(void) {
-    struct timespec t;
-    clock_gettime(CLOCK_MONOTONIC, &t);
-    return 1e6 * (double)t.tv_sec + 1e-3 * (double)t.tv_nsec;
-}
 
 /* runs a side once; keeps the least time */
 static void measure(void (*side)(const struct plan *), const struct plan *p, double *least) {

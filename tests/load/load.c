@@ -4,76 +4,15 @@
    the next byte can't be read: a call that writes a table or reads past it is stopped, and the tests with it. One line for each case that fails; the
    last line is 'N passed, M failed'. */
 #define _DEFAULT_SOURCE
-#include <signal.h>
-#include <sys/mman.h>
-#include <unistd.h>
-
 #include "../../include/hegtalim.h"
-#include "../plans.h"
+#include "../common/lent.h"
 
 #define NEED 233472
-#define GUARD 61
-#define MORE 4099
-
-static unsigned passed, failed;
-static const char *running = "";
-
-/* a read or write where there must be none */
-static void stopped(int signal) {
-    static const char said[] = ": stopped at a place that is not lent\n0 passed, 1 failed\n";
-    (void)signal;
-    if (write(1, running, strlen(running)) < 0 || write(1, said, sizeof said - 1) < 0)
-        _exit(2);
-    _exit(1);
-}
-
-/* ---- lent memory */
-
-/* pages that end before one that can't be read */
-struct pages {
-    uint8_t *start;
-    size_t length;
-};
-
-static struct pages new_pages(size_t least) {
-    size_t page = (size_t)sysconf(_SC_PAGESIZE), n = (least + page - 1) / page * page;
-    uint8_t *p = mmap(NULL, n + page, PROT_READ | PROT_WRITE, MAP_PRIVATE | MAP_ANONYMOUS, -1, 0);
-    if (p == MAP_FAILED || mprotect(p + n, page, PROT_NONE) != 0) {
-        perror("mmap");
-        exit(2);
-    }
-    return (struct pages){p, n};
-}
-
-static void allow(struct pages p, int rights) {
-    if (mprotect(p.start, p.length, rights) != 0) {
-        perror("mprotect");
-        exit(2);
-    }
-}
-
-/* a table at the end of its pages */
-static const uint8_t *lend(struct pages p, const void *bytes, size_t n) {
-    uint8_t *at = p.start + p.length - n;
-    allow(p, PROT_READ | PROT_WRITE);
-    memset(p.start, ',', p.length - n);
-    memcpy(at, bytes, n);
-    allow(p, PROT_READ);
-    return at;
-}
 
 static struct pages roads_pages, carts_pages, paths_pages;
 static uint8_t memory[GUARD + NEED + MORE + GUARD], expected[sizeof memory];
 
-/* what a slice holds before a call: no two neighbours alike, no zero */
-static uint8_t before(size_t i) { return (uint8_t)(1 + i % 251); }
-
 /* ---- one case */
-
-struct bytes {
-    const void *at;
-    size_t length;
-};
 
 /* loads into a slice of n bytes and compares answer, slice and guards with what must come; 0 where they differ */
 static int load_once(const char *name, struct bytes roads, struct bytes carts, struct bytes paths, size_t n, uint64_t answer) {
@@ -106,42 +45,17 @@ static int load_once(const char *name, struct bytes roads, struct bytes carts, s
     return 1;
 }
 
-static void count(int ok) {
-    if (ok)
-        passed++;
-    else
-        failed++;
-}
-
 static void check_bytes(const char *name, struct bytes roads, struct bytes carts, struct bytes paths, unsigned refusal, unsigned table, unsigned record) {
     uint64_t answer = refusal | (uint64_t)table << 8 | (uint64_t)record << 32;
     count(load_once(name, roads, carts, paths, NEED - 1, 14) && load_once(name, roads, carts, paths, NEED, answer) &&
           load_once(name, roads, carts, paths, NEED + MORE, answer));
 }
 
-static struct bytes bytes_of(const struct text *t) { return (struct bytes){t->bytes, t->length}; }
-
 static void check(const char *name, const struct plan *p, unsigned refusal, unsigned table, unsigned record) {
     check_bytes(name, bytes_of(&p->roads), bytes_of(&p->carts), bytes_of(&p->paths), refusal, table, record);
 }
 
 /* ---- cases that are written out */
-
-#define B(s) {s, sizeof(s) - 1}
-#define ROADS "from,to,length,margin\r\n"
-#define CARTS "fastest,slowest\r\n"
-/* roads between cells 0 (A), 1 (B), .. */
-#define AB "0,1,1000000,250000\r\n"
-#define BC "1,2,1000000,250000\r\n"
-#define CD "2,3,1000000,250000\r\n"
-#define DE "3,4,1000000,250000\r\n"
-#define CF "2,5,1000000,250000\r\n"
-#define LINE ROADS AB BC CD DE
-#define FREE "250000,\r\n"
-#define ONE CARTS FREE
-#define TWO CARTS FREE FREE
-#define THREE CARTS FREE FREE FREE
-#define FOUR CARTS FREE FREE FREE FREE
 
 /* a case of roads, of carts or of paths beside sound tables */
 #define OF_ROADS(roads) B(roads), B(ONE), B("0,1\r\n")
@@ -699,49 +613,33 @@ static void write_paths(void) {
     add_paths(&p.paths, &way);
 }
 
-/* n carts, each on a road of its own, that make `moves` moves there and back, the last `more` besides; all in w cells */
-static void begin_to_and_fro(unsigned n, unsigned w, unsigned moves, unsigned more) {
-    begin_plan(&p);
-    way.carts = n;
-    way.steps = w;
-    for (unsigned j = 0; j < n; j++) {
-        add_road(&p.roads, 2 * j, 2 * j + 1, 1000000, 250000);
-        add(&p.carts, "250000,\r\n");
-        for (unsigned s = 0; s < w; s++) {
-            unsigned all = j + 1 < n ? moves : moves + more;
-            way.cell[j][s] = 2 * j + (s < all ? s : all) % 2;
-        }
-    }
-    write_paths();
-}
-
 /* events: 2 + carts + 3 × moves, so that 4,096 can be had with 2, 5, .. 62 carts and 4,097 with 3, 6, .. 63 */
 static void events_limit(void) {
-    begin_to_and_fro(2, 700, 682, 0);
+    to_and_fro(&p, &way, 2, 700, 682, 0);
     check("4,096 events", &p, 0, 0, 0);
-    begin_to_and_fro(2, 700, 682, 1);
+    to_and_fro(&p, &way, 2, 700, 682, 1);
     check("4,099 events", &p, 4, 3, 0);
-    begin_to_and_fro(3, 700, 454, 1);
+    to_and_fro(&p, &way, 3, 700, 454, 1);
     check("4,094 events", &p, 0, 0, 0);
-    begin_to_and_fro(3, 700, 454, 2);
+    to_and_fro(&p, &way, 3, 700, 454, 2);
     check("4,097 events", &p, 4, 3, 0);
-    begin_to_and_fro(4, 700, 341, 0);
+    to_and_fro(&p, &way, 4, 700, 341, 0);
     check("4,098 events", &p, 4, 3, 0);
-    begin_to_and_fro(4, 700, 340, 3);
+    to_and_fro(&p, &way, 4, 700, 340, 3);
     check("4,095 events", &p, 0, 0, 0);
-    begin_to_and_fro(62, 128, 21, 42);
+    to_and_fro(&p, &way, 62, 128, 21, 42);
     check("4,096 events, 62 carts", &p, 0, 0, 0);
-    begin_to_and_fro(62, 128, 21, 43);
+    to_and_fro(&p, &way, 62, 128, 21, 43);
     check("4,099 events, 62 carts", &p, 4, 3, 0);
-    begin_to_and_fro(63, 128, 21, 20);
+    to_and_fro(&p, &way, 63, 128, 21, 20);
     check("4,094 events, 63 carts", &p, 0, 0, 0);
-    begin_to_and_fro(63, 128, 21, 21);
+    to_and_fro(&p, &way, 63, 128, 21, 21);
     check("4,097 events, 63 carts", &p, 4, 3, 0);
-    begin_to_and_fro(64, 128, 127, 0);
+    to_and_fro(&p, &way, 64, 128, 127, 0);
     check("a move at every step of 64 × 128 path cells", &p, 4, 3, 0);
-    begin_to_and_fro(8, 1024, 1023, 0);
+    to_and_fro(&p, &way, 8, 1024, 1023, 0);
     check("a move at every step of 8 × 1,024 path cells", &p, 4, 3, 0);
-    begin_to_and_fro(1, 1024, 1023, 0);
+    to_and_fro(&p, &way, 1, 1024, 1023, 0);
     check("a move at every step of 1,024", &p, 0, 0, 0);
     plan_at_limits(&p);
     check("1,024 roads, 64 carts, 8,192 path cells, 4,095 events", &p, 0, 0, 0);
@@ -753,7 +651,7 @@ static void events_limit(void) {
     check("4,287 events, 64 carts", &p, 4, 3, 0);
 
     /* 7, 8 and 9 come first: two carts in cells 0 and 2 that make too many moves, and then one step that must not be */
-    begin_to_and_fro(2, 700, 690, 0);
+    to_and_fro(&p, &way, 2, 700, 690, 0);
     check("4,144 events", &p, 4, 3, 0);
     way.cell[1][699] = 0;
     write_paths();
@@ -830,9 +728,7 @@ static void load_again(void) {
 }
 
 int main(void) {
-    signal(SIGSEGV, stopped);
-    signal(SIGBUS, stopped);
-    setvbuf(stdout, NULL, _IOLBF, 0);
+    begin_tests();
     roads_pages = new_pages(sizeof p.roads.bytes);
     carts_pages = new_pages(sizeof p.carts.bytes);
     paths_pages = new_pages(sizeof p.paths.bytes);
@@ -846,6 +742,5 @@ int main(void) {
     bounds_limit();
     short_slices();
     load_again();
-    printf("%u passed, %u failed\n", passed, failed);
-    return failed != 0;
+    return end_tests();
 }

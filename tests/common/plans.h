@@ -92,6 +92,47 @@ static inline void corridor(struct plan *p, unsigned carts, unsigned steps, unsi
    more would be over 4,096. */
 static inline void plan_at_limits(struct plan *p) { corridor(p, 64, 128, 21); }
 
+/* It has no times: two micrometres take a cart no whole number of milliseconds that is between its speeds. The same with carts that may wait has. */
+static inline void times_at_limits(struct plan *p) {
+    plan_at_limits(p);
+    p->carts.length = 0;
+    add(&p->carts, "fastest,slowest\r\n");
+    add_carts(p, 64, "20000000,\r\n");
+}
+
+/* n carts, each on a road of its own, that make `moves` moves there and back, the last `more` besides; all in w cells */
+static inline void to_and_fro(struct plan *p, struct steps *way, unsigned n, unsigned w, unsigned moves, unsigned more) {
+    begin_plan(p);
+    way->carts = n;
+    way->steps = w;
+    for (unsigned j = 0; j < n; j++) {
+        add_road(&p->roads, 2 * j, 2 * j + 1, 1000000, 250000);
+        add(&p->carts, "250000,\r\n");
+        for (unsigned s = 0; s < w; s++) {
+            unsigned all = j + 1 < n ? moves : moves + more;
+            way->cell[j][s] = 2 * j + (s < all ? s : all) % 2;
+        }
+    }
+    add_paths(&p->paths, way);
+}
+
+/* Carts in a row, one behind the other, in a corridor of cells 0, 1, ..: cart 1 leads, and at each of `moves` steps every cart moves one cell on, into
+   the cell that the cart before it leaves. The leader's record of the carts table, and that of each other. */
+static inline void follow(struct plan *p, unsigned n, unsigned moves, const char *leader, const char *others) {
+    static struct steps way;
+    begin_plan(p);
+    for (unsigned i = 0; i + 1 < n + moves; i++)
+        add_road(&p->roads, i, i + 1, 1000000, 250000);
+    add(&p->carts, leader);
+    add_carts(p, n - 1, others);
+    way.carts = n;
+    way.steps = moves + 1;
+    for (unsigned j = 0; j < n; j++)
+        for (unsigned s = 0; s <= moves; s++)
+            way.cell[j][s] = n - 1 - j + s;
+    add_paths(&p->paths, &way);
+}
+
 /* Carts that take turns in one cell. Cell 0 has a road to the home of each cart, cells 1 to n; round by round, each cart in turn drives to cell 0 and
    home again, one step each, and when all is done cart 1 makes `more` moves between its home and cell 1000.
    Bounds: 2 for each cart, 3 for each of the 2 × rounds × n + more moves, and order bounds from each visit to cell 0 to each other cart that comes

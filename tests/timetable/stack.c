@@ -1,0 +1,61 @@
+/* How much stack hegtalim_timetable uses: at most 393,216 bytes (384 KiB), so that a thread of 512 KiB can call it. The last line is
+   'N passed, M failed'. */
+#define _DEFAULT_SOURCE
+#include "../../include/hegtalim.h"
+#include "../common/slice.h"
+#include "../common/stack.h"
+
+#define MOST 393216
+
+static struct plan p;
+static struct steps way;
+static uint8_t held[HEGTALIM_PLAN_NEED], times[HEGTALIM_TIMES_NEED], chain_bounds[HEGTALIM_CHAIN_BOUNDS_NEED],
+    chain_directions[HEGTALIM_CHAIN_DIRECTIONS_NEED];
+static unsigned passed, failed;
+
+/* the refusal alone: how long a chain is, and how many passes there are, is not asked here */
+static uint64_t refusal(void) {
+    return HEGTALIM_REFUSAL(hegtalim_timetable(held, sizeof held, times, sizeof times, chain_bounds, sizeof chain_bounds, chain_directions,
+                                               sizeof chain_directions));
+}
+
+static void measure(const char *name, unsigned expected) {
+    if (measure_stack(name, refusal, expected, MOST))
+        passed++;
+    else
+        failed++;
+}
+
+/* every point reported at its time */
+static void report_every_point(void) {
+    static struct numbers numbers;
+    static struct network network;
+    static struct solution solution;
+    static struct report log[LOG_PLACES];
+    parse_plan(&p, &numbers);
+    read_network(&numbers, &network);
+    add_reports(&network, log, 0);
+    solve(&network, &solution);
+    put_log(held, log, report_all(&network, &solution, log));
+}
+
+int main(void) {
+    times_at_limits(&p);
+    put_tables(held, sizeof held, &p);
+    measure("64 carts at the limits", 0);
+    report_every_point();
+    measure("64 carts at the limits, every point reported", 0);
+    to_and_fro(&p, &way, 2, 700, 682, 0);
+    put_tables(held, sizeof held, &p);
+    measure("4,096 events", 0);
+    turns(&p, 16, 24, 72);
+    put_tables(held, sizeof held, &p);
+    measure("8,192 bounds", 0);
+    plan_at_limits(&p);
+    put_tables(held, sizeof held, &p);
+    measure("64 carts at the limits, no times", 13);
+    held[LOG_CARTS] = 65;
+    measure("no plan", 10);
+    printf("%u passed, %u failed\n", passed, failed);
+    return failed != 0;
+}
