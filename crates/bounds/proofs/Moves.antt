@@ -17,7 +17,8 @@ use Rattle.limits.proofs.Counts.{path-points, travel-count}
 use Rattle.limits.proofs.LimitSteps.{path-events}
 use Rattle.limits.proofs.CountSteps.{steps-from, visits-first, visits-wait, visits-move, visits-none, paths-cons}
 use Rattle.bounds.specs.Writing.{speed-of, cart-of, road-of, road-found, part-bound, move-bounds, path-bounds}
-use Rattle.bounds.proofs.Stores.{Pairs, more-stored, three-stored}
+use Rattle.network.proofs.BoundStores.{Pairs, more-stored}
+use Rattle.bounds.proofs.Stores.{three-stored}
 
 -- ---- a move
 

@@ -1,40 +1,20 @@
--- Bounds stored in an array, one after the other: two numbers each. Assumes nothing.
+-- Bounds stored in an array: those of a move, those of a row, and those of a part. Assumes nothing.
 use Prim.Native.Nat.{ℕ, _+_, _*_, _-_, _≤_, _<_}
 use native.Mathlib.Nat.{add-zero, sub-zero}
-use native.Mathlib.Numerals.{add-one}
 use native.Mathlib.Omega.{arith}
 use mathlib.Core.Path.{_≡_, refl, ap, sym, _∙_}
 use mathlib.Core.List.{List, [], _∷_, _++_, map, flatMap, append-assoc, append-nil}
-use lib.ListN.{length, take, drop, getD, set, length-drop, drop-of-length-le}
+use lib.ListN.{length, take, drop, getD, length-drop, drop-of-length-le}
 use lib.Seq.{sets, sets-eq, drop-drop}
 use borrow.Rule.Slice.PartMut.{midOf, putMid}
 use Rattle.csv.proofs.Reading.{rest-is}
 use Rattle.words.specs.Words.{written}
-use Rattle.limits.proofs.OrderSteps.{flat-sets}
 use Rattle.limits.proofs.CountSteps.{steps-from, steps-cons, steps-none}
 use Rattle.network.specs.Bounds.{Bound}
-
--- two numbers stored
-pub two-stored : (s : List ℕ) (i a b : ℕ) → set (set s i a) (i + 1) b ≡ sets s i (a ∷ b ∷ [])
-two-stored s i a b = ap (λ (n : ℕ). set (set s i a) n b) (add-one i)
-
--- numbers of a bound: two
-abbrev pub Pairs : (Bound → List ℕ) → Type 0
-Pairs g = (b : Bound) → length (g b) ≡ 2
+use Rattle.network.proofs.BoundStores.{Pairs, one-stored, none-stored}
 
 module _ (g : Bound → List ℕ) (p : Pairs g) where
-  -- bounds stored behind others
-  pub more-stored : (s t : List ℕ) (k j : ℕ) (xs ys : List Bound) → j ≡ k + length xs → t ≡ sets s (2 * k) (flatMap g xs)
-      → sets t (2 * j) (flatMap g ys) ≡ sets s (2 * k) (flatMap g (xs ++ ys))
-  more-stored s t k j xs ys e q = ap (λ (x : List ℕ). sets x (2 * j) (flatMap g ys)) q ∙ flat-sets g p xs ys s k j e
-
-  -- behind one
-  pub one-stored : (s t : List ℕ) (k : ℕ) (b : Bound) (ys : List Bound) → t ≡ sets s (2 * k) (g b)
-      → sets t (2 * (k + 1)) (flatMap g ys) ≡ sets s (2 * k) (flatMap g (b ∷ ys))
-  unfolding flatMap
-  one-stored s t k b ys q = more-stored s t k (k + 1) (b ∷ []) ys refl (q ∙ ap (λ (l : List ℕ). sets s (2 * k) l) (sym (append-nil (g b))))
-
-  -- three
+  -- three bounds stored
   pub three-stored : (s t u v : List ℕ) (k : ℕ) (a b c : Bound) → t ≡ sets s (2 * k) (g a) → u ≡ sets t (2 * (k + 1)) (g b) → v ≡ sets u (2 * (k + 2)) (g c)
       → v ≡ sets s (2 * k) (flatMap g (a ∷ b ∷ c ∷ []))
   unfolding flatMap
@@ -42,13 +22,8 @@ module _ (g : Bound → List ℕ) (p : Pairs g) where
       let third : 2 * (k + 2) ≡ 2 * (k + 1 + 1) = omega arith in
       z ∙ ap (λ (l : List ℕ). sets u (2 * (k + 2)) l) (sym (append-nil (g c)))
       ∙ ap (λ (n : ℕ). sets u n (flatMap g (c ∷ []))) third
-      ∙ one-stored t u (k + 1) b (c ∷ []) y
-      ∙ one-stored s t k a (b ∷ c ∷ []) x
-
--- none
-pub none-stored : (g : Bound → List ℕ) (s : List ℕ) (k : ℕ) (bs : List Bound) → bs ≡ [] → s ≡ sets s k (flatMap g bs)
-unfolding flatMap
-none-stored g s k bs e = ap (λ (l : List Bound). sets s k (flatMap g l)) (sym e)
+      ∙ one-stored g p t u (k + 1) b (c ∷ []) y
+      ∙ one-stored g p s t k a (b ∷ c ∷ []) x
 
 -- ---- a bound for each number of a row
 

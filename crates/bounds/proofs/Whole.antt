@@ -26,13 +26,13 @@ use Rattle.limits.specs.Counts.{total, moves}
 use Rattle.limits.specs.Orders.{first-events, events-fit, firsts-fitting, orders-fitting}
 use Rattle.limits.proofs.Counts.{path-points, events-are, route-count, travels-count, start-count, bounds-are, limits-by-paths}
 use Rattle.limits.proofs.LimitSteps.{all-events}
-use Rattle.limits.proofs.Firsts.{firsts-from, first-events-are, firsts-count, sets-written}
+use Rattle.limits.proofs.Firsts.{firsts-from, first-events-are, firsts-count}
 use Rattle.limits.proofs.RowBounds.{of-paths-carts, orders-by-paths, order-count-is}
 use Rattle.bounds.specs.declared.Network.{Network}
 use Rattle.bounds.specs.Network.{Numbers, plan-in, network-answer}
 use Rattle.bounds.specs.Writing.{start-to, finish-before}
-use Rattle.limits.proofs.OrderSteps.{flat-length}
-use Rattle.bounds.proofs.Stores.{Pairs, more-stored, part-stored}
+use Rattle.network.proofs.BoundStores.{Pairs, pairs-length, more-stored, front-stored}
+use Rattle.bounds.proofs.Stores.{part-stored}
 
 -- ---- by first events
 
@@ -237,12 +237,12 @@ module _ (roads carts w : ℕ) (a : Numbers) where
         let a0 : carts ≡ 0 + length starts = omega (arith, start-count (routes-of q), route-count (q .carts) (q .paths) 1 1 even, paths-in-length carts w (a .cells)) in
         let a1 : k ≡ carts + length travel = omega (arith, hk, travels-count (q .roads) (q .carts) (q .paths) 1 1 even) in
         let a2 : j ≡ k + length orders = omega (arith, hj, same) in
-        let size : length (flatMap g (bounds q)) ≤ length s = omega (arith, room, flat-length g p (bounds q), bounds-count) in
+        let size : length (flatMap g (bounds q)) ≤ length s = omega (arith, room, pairs-length g p (bounds q), bounds-count) in
         four ∙ ap (λ (bs : List Bound). sets v (2 * j) (flatMap g bs)) finishes-are
         ∙ more-stored g p u v k j orders finishes a2 (three ∙ ap (λ (bs : List Bound). sets u (2 * k) (flatMap g bs)) orders-are)
         ∙ more-stored g p t u carts k travel (orders ++ finishes) a1 two
         ∙ more-stored g p s t 0 carts starts (travel ++ (orders ++ finishes)) a0 (one ∙ ap (λ (bs : List Bound). sets s (2 * 0) (flatMap g bs)) starts-are)
-        ∙ sets-written (flatMap g (bounds q)) s size
+        ∙ front-stored (flatMap g (bounds q)) s size
 
 -- ---- first events
 
@@ -290,5 +290,5 @@ module _ (n w : ℕ) (s : List ℕ) (k : ℕ) (ends ranges : List ℕ) where
     pub orders-stored : (g : Bound → List ℕ) → Pairs g → (x t : List ℕ) → 2 * (k + length ordered) ≤ length x
         → t ≡ written (flatMap g written-there) (midOf (2 * k) (length x - 2 * k) x) → putMid (2 * k) (length x - 2 * k) x t ≡ sets x (2 * k) (flatMap g ordered)
     orders-stored g p x t room q =
-        part-stored (flatMap g ordered) x t (2 * k) (omega (arith, room, flat-length g p ordered))
+        part-stored (flatMap g ordered) x t (2 * k) (omega (arith, room, pairs-length g p ordered))
         (q ∙ ap (λ (bs : List Bound). written (flatMap g bs) (midOf (2 * k) (length x - 2 * k) x)) orders-fit)

@@ -31,16 +31,13 @@ struct Track {
     margin: u32,
 }
 
-// Puts a bound in the k-th place of two arrays.
+// Puts a bound in the k-th place of two arrays that have one.
 fn put_bound(ends: &mut [u16], ranges: &mut [u64], k: usize, from: u16, to: u16, lo: u64, hi: u64)
     requires { ⌜ (2 * k + 2 ≤ length (now ends)) × (2 * k + 2 ≤ length (now ranges)) ⌝ }
     ensures { λ _. ⌜ now (ends .exit) ≡ sets (now (ends .entry)) (2 * k) (from ∷ to ∷ []) ⌝ }
     ensures { λ _. ⌜ now (ranges .exit) ≡ sets (now (ranges .entry)) (2 * k) (lo ∷ hi ∷ []) ⌝ }
 {
-    ends[2 * k] = from;
-    ends[2 * k + 1] = to;
-    ranges[2 * k] = lo;
-    ranges[2 * k + 1] = hi;
+    network::put_bound(ends, ranges, k, from, to, lo, hi);
 }
 
 // Puts the start bounds in two arrays, from the k-th place on.

@@ -8,12 +8,13 @@ use mathlib.Core.List.{List, [], _∷_, _++_, map}
 use borrow.Author.Tests.{le-leb, lt-leb}
 use lib.Dec.{leb}
 use lib.ListN.{length, take, drop, set, length-drop}
-use lib.Seq.{sets, sets-eq, length-take-le}
+use lib.Seq.{sets, length-take-le}
 use Rattle.words.specs.Words.{written}
 use Rattle.tables.specs.Arrays.{paths-in}
 use Rattle.tables.proofs.PathRecords.{paths-in-length}
 use Rattle.floor.specs.Plan.{Cart, Plan}
 use Rattle.network.specs.Events.{Route, routes, routes-of, event-count, finish-event}
+use Rattle.network.proofs.BoundStores.{front-stored}
 use Rattle.limits.specs.Limits.{of-paths}
 use Rattle.limits.specs.Orders.{first-events, events-fit, firsts-fitting}
 use Rattle.limits.specs.Counts.{total, moves}
@@ -59,11 +60,6 @@ firsts-by-paths p h = first-events-are p h ∙ sym (of-paths-firsts (p .paths))
 
 -- ---- written
 
--- numbers stored from the first place on are written over the front
-pub sets-written : (vs l : List ℕ) → length vs ≤ length l → sets l 0 vs ≡ written vs l
-unfolding written
-sets-written vs l h = let all : 0 + length vs ≡ length vs = omega arith in sets-eq vs l 0 (omega arith) ∙ ap (λ (n : ℕ). vs ++ drop n l) all
-
 -- one for each path, and one
 pub firsts-count : (ps : List (List ℕ)) (e : ℕ) → length (firsts-from e ps) ≡ suc (length ps)
 firsts-count [] e = refl
@@ -99,7 +95,7 @@ pub firsts-written : (n w : ℕ) (s fs : List ℕ) → n < length fs
 firsts-written n w s fs h =
     let ps : List (List ℕ) = paths-in n w s in
     let room : length (firsts-from 1 ps) ≤ length fs = omega (arith, firsts-count ps 1, paths-in-length n w s) in
-    sets-written (firsts-from 1 ps) fs room
+    front-stored (firsts-from 1 ps) fs room
     ∙ ap (λ (l : List ℕ). written l fs) (sym (of-paths-firsts ps))
 
 -- ---- the tests

@@ -1,12 +1,12 @@
 -- Order bounds written to two arrays, some after the other. Assumes nothing.
-use Prim.Native.Nat.{ℕ, suc, _+_, _*_, _≤_, _<_}
+use Prim.Native.Nat.{ℕ, _+_, _*_, _≤_, _<_}
 use native.Mathlib.Omega.{arith}
 use mathlib.Core.Path.{_≡_, refl, ap, sym, _∙_, subst}
-use mathlib.Core.List.{List, [], _∷_, _++_, flatMap, append-assoc}
+use mathlib.Core.List.{List, [], _∷_, _++_, flatMap}
 use mathlib.Core.Bool.{Bool, true, false, not, _&&_, cond}
 use lib.Dec.{T, leb, leb→le}
 use mir.Facts.{and-yes}
-use lib.ListN.{length, set, length-append}
+use lib.ListN.{length, length-append}
 use lib.Seq.{sets, length-sets}
 use borrow.Author.Tests.{le-leb, lt-leb}
 use Rattle.laws.proofs.Tests.{passes}
@@ -15,53 +15,13 @@ use Rattle.tables.specs.Arrays.{paths-in}
 use Rattle.network.specs.Events.{routes-of, event-count}
 use Rattle.network.specs.Bounds.{Bound, no-earlier, order-bounds, bounds}
 use Rattle.network.specs.BoundArrays.{bound-ends, bound-range}
+use Rattle.network.proofs.BoundStores.{by-ends, by-range, pairs-length, more-stored, front-stored}
 use Rattle.limits.specs.Limits.{of-paths, limits-kept, paths-within}
 use Rattle.limits.specs.Orders.{orders-fitting}
 use Rattle.limits.specs.Counts.{total, moves, stops, orders-among}
 use Rattle.limits.proofs.RowBounds.{of-paths-carts, order-count-is}
 use Rattle.limits.proofs.LimitSteps.{failed, passed, there-says}
-use Rattle.limits.proofs.Firsts.{sets-written, events-counted}
-
--- ---- numbers behind numbers
-
--- stored behind those stored first
-sets-append : (xs ys s : List ℕ) (i : ℕ) → sets (sets s i xs) (i + length xs) ys ≡ sets s i (xs ++ ys)
-sets-append [] ys s i = let same : i + 0 ≡ i = omega arith in ap (λ (n : ℕ). sets s n ys) same
-sets-append (x ∷ xs) ys s i =
-    let next : i + suc (length xs) ≡ suc i + length xs = omega arith in
-    ap (λ (n : ℕ). sets (sets (set s i x) (suc i) xs) n ys) next ∙ sets-append xs ys (set s i x) (suc i)
-
-module _ (f : Bound → List ℕ) (two : (b : Bound) → length (f b) ≡ 2) where
-  -- the numbers of bounds
-  flat-append : (bs cs : List Bound) → flatMap f (bs ++ cs) ≡ flatMap f bs ++ flatMap f cs
-  unfolding flatMap
-  flat-append [] cs = refl
-  flat-append (b ∷ bs) cs = ap (λ (r : List ℕ). f b ++ r) (flat-append bs cs) ∙ sym (append-assoc (f b) (flatMap f bs) (flatMap f cs))
-
-  -- two for each
-  pub flat-length : (bs : List Bound) → length (flatMap f bs) ≡ 2 * length bs
-  unfolding flatMap
-  flat-length [] = refl
-  flat-length (b ∷ bs) = omega (arith, length-append (f b) (flatMap f bs), two b, flat-length bs)
-
-  -- bounds behind those written first
-  pub flat-sets : (bs cs : List Bound) (s : List ℕ) (k m : ℕ) → m ≡ k + length bs
-      → sets (sets s (2 * k) (flatMap f bs)) (2 * m) (flatMap f cs) ≡ sets s (2 * k) (flatMap f (bs ++ cs))
-  flat-sets bs cs s k m e =
-      let far : 2 * m ≡ 2 * k + length (flatMap f bs) = omega (arith, flat-length bs) in
-      ap (λ (n : ℕ). sets (sets s (2 * k) (flatMap f bs)) n (flatMap f cs)) far
-      ∙ sets-append (flatMap f bs) (flatMap f cs) s (2 * k)
-      ∙ ap (sets s (2 * k)) (sym (flat-append bs cs))
-
--- a bound's two ends
-pub ends-two : (b : Bound) → length (bound-ends b) ≡ 2
-unfolding bound-ends
-ends-two b = refl
-
--- its range's two numbers
-pub range-two : (b : Bound) → length (bound-range b) ≡ 2
-unfolding bound-range
-range-two b = refl
+use Rattle.limits.proofs.Firsts.{events-counted}
 
 -- ---- some written, others to come
 
@@ -90,13 +50,11 @@ module _ (all : List Bound) (k : ℕ) (ends₀ ranges₀ : List ℕ) (bs : List 
         ends-long = ap (λ (l : List ℕ). length l) ee ∙ length-sets ends (2 * m) (flatMap bound-ends some) ∙ t .ends-long;
         ranges-long = ap (λ (l : List ℕ). length l) er ∙ length-sets ranges (2 * m) (flatMap bound-range some) ∙ t .ranges-long;
         ends-then =
-            ap (λ (l : List ℕ). sets l (2 * m') (flatMap bound-ends cs)) ee
-            ∙ flat-sets bound-ends ends-two some cs ends m m' em
+            more-stored bound-ends by-ends ends ends' m m' some cs em ee
             ∙ ap (λ (l : List Bound). sets ends (2 * m) (flatMap bound-ends l)) (sym e)
             ∙ t .ends-then;
         ranges-then =
-            ap (λ (l : List ℕ). sets l (2 * m') (flatMap bound-range cs)) er
-            ∙ flat-sets bound-range range-two some cs ranges m m' em
+            more-stored bound-range by-range ranges ranges' m m' some cs em er
             ∙ ap (λ (l : List Bound). sets ranges (2 * m) (flatMap bound-range l)) (sym e)
             ∙ t .ranges-then;
       }
@@ -146,8 +104,8 @@ pub all-written : (row os : List Bound) (ends ranges ends' ranges' : List ℕ) (
 all-written row os ends ranges ends' ranges' m e he hr em ee er = (
   em ∙ ap (λ (l : List Bound). length l) e,
   (
-    ee ∙ ap (λ (l : List Bound). sets ends 0 (flatMap bound-ends l)) e ∙ sets-written (flatMap bound-ends os) ends (omega (arith, flat-length bound-ends ends-two os)),
-    er ∙ ap (λ (l : List Bound). sets ranges 0 (flatMap bound-range l)) e ∙ sets-written (flatMap bound-range os) ranges (omega (arith, flat-length bound-range range-two os)),
+    ee ∙ ap (λ (l : List Bound). sets ends 0 (flatMap bound-ends l)) e ∙ front-stored (flatMap bound-ends os) ends (omega (arith, pairs-length bound-ends by-ends os)),
+    er ∙ ap (λ (l : List Bound). sets ranges 0 (flatMap bound-range l)) e ∙ front-stored (flatMap bound-range os) ranges (omega (arith, pairs-length bound-range by-range os)),
   ),
 )
 

@@ -28,11 +28,7 @@ fn put_bound(ends: &mut [u16], ranges: &mut [u64], k: usize, from: u16, to: u16)
     ensures { λ _. ⌜ now (ends .exit) ≡ sets (now (ends .entry)) (2 * k) (bound-ends (no-earlier from to)) ⌝ }
     ensures { λ _. ⌜ now (ranges .exit) ≡ sets (now (ranges .entry)) (2 * k) (bound-range (no-earlier from to)) ⌝ }
 {
-    let at = 2 * k;
-    ends[at] = from;
-    ends[at + 1] = to;
-    ranges[at] = 0;
-    ranges[at + 1] = 0;
+    network::put_bound(ends, ranges, k, from, to, 0, 0);
 }
 
 // Writes the bounds from visit v, the first of them number k; returns the number after them. The visits of its remainder are gone through.

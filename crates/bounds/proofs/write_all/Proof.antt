@@ -11,7 +11,7 @@ use Rattle.network.specs.BoundArrays.{bound-ends, bound-range}
 use Rattle.limits.specs.Limits.{of-paths}
 use Rattle.limits.specs.Counts.{total, moves}
 use Rattle.bounds.specs.Network.{Numbers}
-use Rattle.limits.proofs.OrderSteps.{ends-two, range-two}
+use Rattle.network.proofs.BoundStores.{by-ends, by-range}
 use Rattle.bounds.proofs.Whole.{bounds-count, sizes, firsts-there, firsts-positive, whole-written}
 use Rattle.bounds.proofs.write_all.Statement.{statement}
 use Rattle.bounds.proofs.write_all.Tie as tie
@@ -126,10 +126,10 @@ returns c =
     let j : o .write-orders .result ≡ q .write-travel .result + ordered z = o .write-orders .ensures .0 in (
       omega (arith, k, j, bounds-count (a .roads) (a .carts) (a .steps) (numbers z)),
       (
-        whole-written (a .roads) (a .carts) (a .steps) (numbers z) (a .firsts .now) (z .pre .1 .1 .0) bound-ends ends-two (a .ends .now)
+        whole-written (a .roads) (a .carts) (a .steps) (numbers z) (a .firsts .now) (z .pre .1 .1 .0) bound-ends by-ends (a .ends .now)
             (p .write-starts .last .1 .1 .1 .0) (q .write-travel .last .1 .1 .1 .1 .1 .1 .1 .0) (o .write-orders .last .1 .1 .1 .1 .0) (f .write-finishes .last .1 .1 .1 .0) (q .write-travel .result) (o .write-orders .result)
             (omega (arith, e, s .4)) k j (p .write-starts .ensures .0) (q .write-travel .ensures .1 .0) (o .write-orders .ensures .1 .0) (f .write-finishes .ensures .0),
-        whole-written (a .roads) (a .carts) (a .steps) (numbers z) (a .firsts .now) (z .pre .1 .1 .0) bound-range range-two (a .ranges .now)
+        whole-written (a .roads) (a .carts) (a .steps) (numbers z) (a .firsts .now) (z .pre .1 .1 .0) bound-range by-range (a .ranges .now)
             (p .write-starts .last .1 .1 .1 .1 .0) (q .write-travel .last .1 .1 .1 .1 .1 .1 .1 .1 .0) (o .write-orders .last .1 .1 .1 .1 .1 .0) (f .write-finishes .last .1 .1 .1 .1 .0) (q .write-travel .result) (o .write-orders .result)
             (omega (arith, r, s .4)) k j (p .write-starts .ensures .1) (q .write-travel .ensures .1 .1) (o .write-orders .ensures .1 .1) (f .write-finishes .ensures .1),
       ),

@@ -11,7 +11,7 @@ use Rattle.network.specs.Bounds.{no-earlier}
 use Rattle.network.specs.BoundArrays.{bound-ends, hi-number, bound-range}
 use Rattle.limits.proofs.CountSteps.{steps-from}
 use Rattle.bounds.specs.Writing.{finish-before}
-use Rattle.limits.proofs.OrderSteps.{ends-two, range-two}
+use Rattle.network.proofs.BoundStores.{by-ends, by-range}
 use Rattle.bounds.proofs.Stores.{row-first, row-next, row-last}
 use Rattle.bounds.proofs.write_finishes.Statement.{statement}
 use Rattle.bounds.proofs.write_finishes.Tie as tie
@@ -40,8 +40,8 @@ loop-holds c =
       omega arith,
       refl,
       refl,
-      row-first bound-ends ends-two (finish-before finish) (a .firsts .now) 1 (a .carts) (a .k) (a .ends .now),
-      row-first bound-range range-two (finish-before finish) (a .firsts .now) 1 (a .carts) (a .k) (a .ranges .now),
+      row-first bound-ends by-ends (finish-before finish) (a .firsts .now) 1 (a .carts) (a .k) (a .ends .now),
+      row-first bound-range by-range (finish-before finish) (a .firsts .now) 1 (a .carts) (a .k) (a .ranges .now),
     )
 
 add-last : tie.Need-add-last Inv-loop μ-loop
@@ -83,10 +83,10 @@ loop-again c =
       omega arith,
       p .put-bound .kept .0 ∙ l .loop .inv .1,
       p .put-bound .kept .1 .0 ∙ l .loop .inv .2,
-      row-next bound-ends ends-two (finish-before finish) (a .firsts .now) 1 (a .carts) (a .k) h (l .loop .ends) (p .put-bound .last .0) (l .loop .i) (l .loop .i + 1) t (omega arith)
+      row-next bound-ends by-ends (finish-before finish) (a .firsts .now) 1 (a .carts) (a .k) h (l .loop .ends) (p .put-bound .last .0) (l .loop .i) (l .loop .i + 1) t (omega arith)
           (p .put-bound .ensures .0)
           ∙ l .loop .inv .3,
-      row-next bound-range range-two (finish-before finish) (a .firsts .now) 1 (a .carts) (a .k) h (l .loop .ranges) (p .put-bound .last .1 .0) (l .loop .i) (l .loop .i + 1) t (omega arith)
+      row-next bound-range by-range (finish-before finish) (a .firsts .now) 1 (a .carts) (a .k) h (l .loop .ranges) (p .put-bound .last .1 .0) (l .loop .i) (l .loop .i + 1) t (omega arith)
           (p .put-bound .ensures .1)
           ∙ l .loop .inv .4,
     )
@@ -103,8 +103,8 @@ returns c =
     let a = l .before .before .before .before .before .args in
     let finish : ℕ = getD (a .firsts .now) (a .carts) 0 in
     let h : 1 + a .carts ≤ length (a .firsts .now) = omega arith in (
-      row-last bound-ends ends-two (finish-before finish) (a .firsts .now) 1 (a .carts) (a .k) h (l .loop .ends) (l .loop .i) (c .loop-test .left) ∙ l .loop .inv .3,
-      row-last bound-range range-two (finish-before finish) (a .firsts .now) 1 (a .carts) (a .k) h (l .loop .ranges) (l .loop .i) (c .loop-test .left) ∙ l .loop .inv .4,
+      row-last bound-ends by-ends (finish-before finish) (a .firsts .now) 1 (a .carts) (a .k) h (l .loop .ends) (l .loop .i) (c .loop-test .left) ∙ l .loop .inv .3,
+      row-last bound-range by-range (finish-before finish) (a .firsts .now) 1 (a .carts) (a .k) h (l .loop .ranges) (l .loop .i) (c .loop-test .left) ∙ l .loop .inv .4,
     )
 
 pub write-finishes-spec : {M : Type 1} → statement M

@@ -13,7 +13,7 @@ use Rattle.network.specs.Bounds.{Bound, order-bounds}
 use Rattle.network.specs.BoundArrays.{bound-ends, bound-range}
 use Rattle.limits.specs.Limits.{of-paths}
 use Rattle.limits.specs.Orders.{orders-fitting}
-use Rattle.limits.proofs.OrderSteps.{ends-two, range-two}
+use Rattle.network.proofs.BoundStores.{by-ends, by-range}
 use Rattle.bounds.proofs.Whole.{orders-fit, orders-stored}
 use Rattle.bounds.proofs.write_orders.Statement.{statement}
 use Rattle.bounds.proofs.write_orders.Tie as tie
@@ -83,9 +83,9 @@ returns c =
       ap (λ (n : ℕ). a .k + n) (p .order-bounds .ensures .0 ∙ ap (λ (bs : List Bound). length bs) (fit z)),
       (
         orders-stored (a .carts) (a .steps) (a .cells .now) (a .k) (a .ends .now) (a .ranges .now) (z .pre .0 .1) (z .pre .0 .0) (z .pre .1 .0) (z .pre .1 .1)
-            bound-ends ends-two (a .ends .now) (p .order-bounds .last .1 .1 .1 .0) (z .pre .1 .0) (p .order-bounds .ensures .1 .0),
+            bound-ends by-ends (a .ends .now) (p .order-bounds .last .1 .1 .1 .0) (z .pre .1 .0) (p .order-bounds .ensures .1 .0),
         orders-stored (a .carts) (a .steps) (a .cells .now) (a .k) (a .ends .now) (a .ranges .now) (z .pre .0 .1) (z .pre .0 .0) (z .pre .1 .0) (z .pre .1 .1)
-            bound-range range-two (a .ranges .now) (p .order-bounds .last .1 .1 .1 .1 .0) (z .pre .1 .1) (p .order-bounds .ensures .1 .1),
+            bound-range by-range (a .ranges .now) (p .order-bounds .last .1 .1 .1 .1 .0) (z .pre .1 .1) (p .order-bounds .ensures .1 .1),
       ),
     )
 

@@ -10,7 +10,7 @@ use borrow.Author.Needs.{needs}
 use Rattle.network.specs.BoundArrays.{bound-ends, hi-number, bound-range}
 use Rattle.limits.proofs.CountSteps.{steps-from}
 use Rattle.bounds.specs.Writing.{start-to}
-use Rattle.limits.proofs.OrderSteps.{ends-two, range-two}
+use Rattle.network.proofs.BoundStores.{by-ends, by-range}
 use Rattle.bounds.proofs.Stores.{row-first, row-next, row-last}
 use Rattle.bounds.proofs.write_starts.Statement.{statement}
 use Rattle.bounds.proofs.write_starts.Tie as tie
@@ -30,8 +30,8 @@ loop-holds c =
       omega arith,
       refl,
       refl,
-      row-first bound-ends ends-two start-to (a .firsts .now) 0 (a .carts) (a .k) (a .ends .now),
-      row-first bound-range range-two start-to (a .firsts .now) 0 (a .carts) (a .k) (a .ranges .now),
+      row-first bound-ends by-ends start-to (a .firsts .now) 0 (a .carts) (a .k) (a .ends .now),
+      row-first bound-range by-range start-to (a .firsts .now) 0 (a .carts) (a .k) (a .ranges .now),
     )
 
 add-put-bound : tie.Need-add-put-bound Inv-loop μ-loop
@@ -63,9 +63,9 @@ loop-again c =
       omega arith,
       p .put-bound .kept .0 ∙ l .loop .inv .1,
       p .put-bound .kept .1 .0 ∙ l .loop .inv .2,
-      row-next bound-ends ends-two start-to (a .firsts .now) 0 (a .carts) (a .k) h (l .loop .ends) (p .put-bound .last .0) (l .loop .i) (l .loop .i) t (omega arith) (p .put-bound .ensures .0)
+      row-next bound-ends by-ends start-to (a .firsts .now) 0 (a .carts) (a .k) h (l .loop .ends) (p .put-bound .last .0) (l .loop .i) (l .loop .i) t (omega arith) (p .put-bound .ensures .0)
           ∙ l .loop .inv .3,
-      row-next bound-range range-two start-to (a .firsts .now) 0 (a .carts) (a .k) h (l .loop .ranges) (p .put-bound .last .1 .0) (l .loop .i) (l .loop .i) t (omega arith) (p .put-bound .ensures .1)
+      row-next bound-range by-range start-to (a .firsts .now) 0 (a .carts) (a .k) h (l .loop .ranges) (p .put-bound .last .1 .0) (l .loop .i) (l .loop .i) t (omega arith) (p .put-bound .ensures .1)
           ∙ l .loop .inv .4,
     )
 
@@ -80,8 +80,8 @@ returns c =
     let l = c .before in
     let a = l .before .before .before .before .args in
     let h : 0 + a .carts ≤ length (a .firsts .now) = omega arith in (
-      row-last bound-ends ends-two start-to (a .firsts .now) 0 (a .carts) (a .k) h (l .loop .ends) (l .loop .i) (c .loop-test .left) ∙ l .loop .inv .3,
-      row-last bound-range range-two start-to (a .firsts .now) 0 (a .carts) (a .k) h (l .loop .ranges) (l .loop .i) (c .loop-test .left) ∙ l .loop .inv .4,
+      row-last bound-ends by-ends start-to (a .firsts .now) 0 (a .carts) (a .k) h (l .loop .ends) (l .loop .i) (c .loop-test .left) ∙ l .loop .inv .3,
+      row-last bound-range by-range start-to (a .firsts .now) 0 (a .carts) (a .k) h (l .loop .ranges) (l .loop .i) (c .loop-test .left) ∙ l .loop .inv .4,
     )
 
 pub write-starts-spec : {M : Type 1} → statement M

@@ -3,7 +3,7 @@ use borrow.Author.Needs.{needs}
 use Rattle.floor.specs.Plan.{Cart}
 use Rattle.network.specs.BoundArrays.{bound-ends, bound-range}
 use Rattle.bounds.specs.Writing.{cart-of}
-use Rattle.limits.proofs.OrderSteps.{ends-two, range-two}
+use Rattle.network.proofs.BoundStores.{by-ends, by-range}
 use Rattle.bounds.proofs.Moves.{move-stored}
 use Rattle.bounds.proofs.travel.put_parts.Statement.{statement}
 use Rattle.bounds.proofs.travel.put_parts.Tie as tie
@@ -46,10 +46,10 @@ returns c =
     let r = x .before .before .before in
     let a = r .before .before .before .args in
     let cart : Cart = cart-of (a .fastest) (a .slowest) in (
-      move-stored bound-ends ends-two (a .ends .now) (x .put-part .last .1 .1 .1 .1 .1 .0) (y .put-part2 .last .1 .1 .1 .1 .1 .0) (z .put-part3 .last .1 .1 .1 .1 .1 .0)
+      move-stored bound-ends by-ends (a .ends .now) (x .put-part .last .1 .1 .1 .1 .1 .0) (y .put-part2 .last .1 .1 .1 .1 .1 .0) (z .put-part3 .last .1 .1 .1 .1 .1 .0)
           (a .k) (a .e) cart (a .track .length) (a .track .margin) (r .rest-length .result) (r .rest-length .ensures)
           (x .put-part .ensures .0) (y .put-part2 .ensures .0) (z .put-part3 .ensures .0),
-      move-stored bound-range range-two (a .ranges .now) (x .put-part .last .1 .1 .1 .1 .1 .1 .0) (y .put-part2 .last .1 .1 .1 .1 .1 .1 .0) (z .put-part3 .last .1 .1 .1 .1 .1 .1 .0)
+      move-stored bound-range by-range (a .ranges .now) (x .put-part .last .1 .1 .1 .1 .1 .1 .0) (y .put-part2 .last .1 .1 .1 .1 .1 .1 .0) (z .put-part3 .last .1 .1 .1 .1 .1 .1 .0)
           (a .k) (a .e) cart (a .track .length) (a .track .margin) (r .rest-length .result) (r .rest-length .ensures)
           (x .put-part .ensures .1) (y .put-part2 .ensures .1) (z .put-part3 .ensures .1),
     )

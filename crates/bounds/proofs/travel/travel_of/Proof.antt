@@ -16,8 +16,7 @@ use Rattle.network.specs.BoundArrays.{bound-ends, bound-range}
 use Rattle.limits.specs.Counts.{moves-after, moves}
 use Rattle.limits.proofs.CountSteps.{steps-from, moves-first, moves-wait, moves-move, moves-none}
 use Rattle.bounds.specs.Writing.{cart-of, path-bounds}
-use Rattle.limits.proofs.OrderSteps.{ends-two, range-two}
-use Rattle.bounds.proofs.Stores.{none-stored}
+use Rattle.network.proofs.BoundStores.{by-ends, by-range, none-stored}
 use Rattle.bounds.proofs.Moves.{along, path-first, wait-stored, moved-stored, path-none}
 use Rattle.bounds.proofs.travel.travel_of.Statement.{statement}
 use Rattle.bounds.proofs.travel.travel_of.Tie as tie
@@ -119,10 +118,10 @@ loop-again c =
       ap (λ (x : List ℕ). length x) (w .9) ∙ w .3 .kept .1 .1 .1 .1 .1 .1 .1 .1 .1 .0 ∙ l .loop .inv .3,
       omega (arith, u, w .10, w .11),
       omega (arith, v, w .11, moves-move (a .cells .now) (a .at) (a .steps) h (l .loop .c) (l .loop .s) t (w .0 .taken)),
-      moved-stored roads cart (a .cells .now) (a .at) (a .steps) h bound-ends ends-two (l .loop .f) (l .loop .n) (l .loop .c) (l .loop .s) t
+      moved-stored roads cart (a .cells .now) (a .at) (a .steps) h bound-ends by-ends (l .loop .f) (l .loop .n) (l .loop .c) (l .loop .s) t
           (l .loop .ends) (c .if1 .ends) (c .if1 .f) (c .if1 .n) (w .0 .taken) (w .10) (w .11) (w .8 ∙ w .3 .ensures .0)
           ∙ l .loop .inv .6,
-      moved-stored roads cart (a .cells .now) (a .at) (a .steps) h bound-range range-two (l .loop .f) (l .loop .n) (l .loop .c) (l .loop .s) t
+      moved-stored roads cart (a .cells .now) (a .at) (a .steps) h bound-range by-range (l .loop .f) (l .loop .n) (l .loop .c) (l .loop .s) t
           (l .loop .ranges) (c .if1 .ranges) (c .if1 .f) (c .if1 .n) (w .0 .taken) (w .10) (w .11) (w .9 ∙ w .3 .ensures .1)
           ∙ l .loop .inv .7,
     ))
@@ -133,10 +132,10 @@ loop-again c =
       ap (λ (x : List ℕ). length x) (w .2) ∙ l .loop .inv .3,
       omega (arith, u, w .3, w .4),
       omega (arith, v, w .4, moves-wait (a .cells .now) (a .at) (a .steps) h (l .loop .c) (l .loop .s) t (w .0 .left)),
-      wait-stored roads cart (a .cells .now) (a .at) (a .steps) h bound-ends ends-two (l .loop .f) (l .loop .n) (l .loop .c) (l .loop .s) t
+      wait-stored roads cart (a .cells .now) (a .at) (a .steps) h bound-ends by-ends (l .loop .f) (l .loop .n) (l .loop .c) (l .loop .s) t
           (l .loop .ends) (c .if1 .ends) (c .if1 .f) (c .if1 .n) (w .0 .left) (w .1) (w .3) (w .4)
           ∙ l .loop .inv .6,
-      wait-stored roads cart (a .cells .now) (a .at) (a .steps) h bound-range range-two (l .loop .f) (l .loop .n) (l .loop .c) (l .loop .s) t
+      wait-stored roads cart (a .cells .now) (a .at) (a .steps) h bound-range by-range (l .loop .f) (l .loop .n) (l .loop .c) (l .loop .s) t
           (l .loop .ranges) (c .if1 .ranges) (c .if1 .f) (c .if1 .n) (w .0 .left) (w .2) (w .3) (w .4)
           ∙ l .loop .inv .7,
     ))

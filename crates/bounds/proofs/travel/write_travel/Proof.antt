@@ -14,8 +14,7 @@ use Rattle.network.specs.Bounds.{Bound, travel-bounds}
 use Rattle.network.specs.BoundArrays.{bound-ends, bound-range}
 use Rattle.limits.specs.Counts.{total, moves}
 use Rattle.limits.proofs.CountSteps.{rows-left, all-moves-cons, all-moves-none, from-first}
-use Rattle.limits.proofs.OrderSteps.{ends-two, range-two}
-use Rattle.bounds.proofs.Stores.{none-stored}
+use Rattle.network.proofs.BoundStores.{by-ends, by-range, none-stored}
 use Rattle.bounds.proofs.Moves.{travel-left, travel-first, cart-stored, travel-none}
 use Rattle.bounds.proofs.travel.write_travel.Statement.{statement}
 use Rattle.bounds.proofs.travel.write_travel.Tie as tie
@@ -45,8 +44,8 @@ loop-holds c =
       refl,
       omega (arith, first),
       omega (arith, first),
-      travel-first roads (a .speeds .now) (a .cells .now) (a .carts) (a .steps) bound-ends ends-two (a .ends .now) (a .k),
-      travel-first roads (a .speeds .now) (a .cells .now) (a .carts) (a .steps) bound-range range-two (a .ranges .now) (a .k),
+      travel-first roads (a .speeds .now) (a .cells .now) (a .carts) (a .steps) bound-ends by-ends (a .ends .now) (a .k),
+      travel-first roads (a .speeds .now) (a .cells .now) (a .carts) (a .steps) bound-range by-range (a .ranges .now) (a .k),
     )
 
 mul-fastest : tie.Need-mul-fastest Inv-loop μ-loop
@@ -144,11 +143,11 @@ loop-again c =
       p .travel-of .kept .1 .1 .1 .1 .1 .1 .1 .1 .1 .1 .0 ∙ l .loop .inv .3,
       omega (arith, t, next, rest, l .loop .inv .4),
       omega (arith, j, rest, l .loop .inv .5),
-      cart-stored roads (a .speeds .now) (a .cells .now) (a .carts) (a .steps) bound-ends ends-two (l .loop .i) (l .loop .e) (l .loop .at)
+      cart-stored roads (a .speeds .now) (a .cells .now) (a .carts) (a .steps) bound-ends by-ends (l .loop .i) (l .loop .e) (l .loop .at)
           (l .loop .e + (p .travel-of .result - l .loop .n + 1)) t (r .0) o next (l .loop .ends) (p .travel-of .last .1 .1 .1 .1 .1 .1 .1 .1 .1 .0)
           (l .loop .n) (p .travel-of .result) j (p .travel-of .ensures .1 .0)
           ∙ l .loop .inv .6,
-      cart-stored roads (a .speeds .now) (a .cells .now) (a .carts) (a .steps) bound-range range-two (l .loop .i) (l .loop .e) (l .loop .at)
+      cart-stored roads (a .speeds .now) (a .cells .now) (a .carts) (a .steps) bound-range by-range (l .loop .i) (l .loop .e) (l .loop .at)
           (l .loop .e + (p .travel-of .result - l .loop .n + 1)) t (r .0) o next (l .loop .ranges) (p .travel-of .last .1 .1 .1 .1 .1 .1 .1 .1 .1 .1 .0)
           (l .loop .n) (p .travel-of .result) j (p .travel-of .ensures .1 .1)
           ∙ l .loop .inv .7,
