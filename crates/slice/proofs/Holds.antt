@@ -1,5 +1,5 @@
 -- What a plan slice holds, from what the readers of its layout, its tables and its log answer. Assumes nothing.
-use Prim.Native.Nat.{ℕ, _+_, _-_, _≤_, _<_}
+use Prim.Native.Nat.{ℕ, _≤_, _<_}
 use native.Mathlib.Omega.{arith}
 use mathlib.Core.Path.{_≡_, refl, ap, ap₂, sym, _∙_, subst}
 use mathlib.Core.Logic.{_⊎_}
@@ -10,7 +10,6 @@ use lib.Dec.{leb}
 use lib.ListN.{length, take, drop, replicate}
 use lib.Seq.{take-take}
 use borrow.Author.Tests.{not-true, not-false, le-leb, lt-leb}
-use Rattle.csv.proofs.Reading.{rest-is}
 use Rattle.words.specs.Words.{padded}
 use Rattle.floor.specs.declared.Refusal.{Refusal}
 use Rattle.floor.specs.Refusal.{Judged, refused, accepted}
@@ -33,13 +32,9 @@ use Rattle.slice.specs.declared.Layout.{Layout}
 use Rattle.slice.specs.PlanSlice.{until-zero, tables-in, log-in, Held, nothing-else, held-by, held}
 use Rattle.slice.specs.Holding.{layout, holding, arrays-held, Outcome, read-slice, plan-into}
 use Rattle.slice.proofs.Slice.{held-where}
-use Rattle.slice.proofs.Laid.{text-front, part-short, entries-count}
+use Rattle.slice.proofs.Laid.{text-front, rest-of, part-short, entries-count}
 
 -- ---- parts of the slice
-
--- n places from place a on
-pub span-is : (s : List ℕ) (a n : ℕ) → take (a + n - a) (drop a s) ≡ take n (drop a s)
-span-is s a n = let e : a + n - a ≡ n = omega arith in ap (λ (i : ℕ). take i (drop a s)) e
 
 -- as many as a text has are the text
 part-text : (m n : ℕ) (l : List ℕ) → n ≡ length (until-zero (take m l)) → take n l ≡ until-zero (take m l)
@@ -47,12 +42,12 @@ part-text m n l e =
     ap (λ (i : ℕ). take i l) e ∙ sym (take-take (length (until-zero (take m l))) m l (part-short m l)) ∙ text-front (take m l)
 
 -- the reader of the tables gets them as parts of the slice
-pub texts-into : (s e v k : List ℕ) (a b r c p : ℕ) (answer : Reading) (edges speeds cells : List ℕ)
-    → Into (take r s) (take (a + c - a) (drop a s)) (take (b + p - b) (drop b s)) e v k answer edges speeds cells
+pub texts-into : (s e v k : List ℕ) (a b r c p : ℕ) (x y : List ℕ) → x ≡ take c (drop a s) → y ≡ take p (drop b s) → (answer : Reading) (edges speeds cells : List ℕ)
+    → Into (take r s) x y e v k answer edges speeds cells
     → Into (take r s) (take c (drop a s)) (take p (drop b s)) e v k answer edges speeds cells
-texts-into s e v k a b r c p answer edges speeds cells i =
-    subst (λ (x : List ℕ). Into (take r s) (take c (drop a s)) x e v k answer edges speeds cells) (span-is s b p)
-    (subst (λ (x : List ℕ). Into (take r s) x (take (b + p - b) (drop b s)) e v k answer edges speeds cells) (span-is s a c) i)
+texts-into s e v k a b r c p x y f g answer edges speeds cells i =
+    subst (λ (z : List ℕ). Into (take r s) (take c (drop a s)) z e v k answer edges speeds cells) g
+    (subst (λ (z : List ℕ). Into (take r s) z y e v k answer edges speeds cells) f i)
 
 -- the limits are passed
 pub log-over : (n w : ℕ) (cells log times : List ℕ) (t : Bool) → t ≡ paths-within n w cells → not t ≡ true
@@ -60,12 +55,13 @@ pub log-over : (n w : ℕ) (cells log times : List ℕ) (t : Bool) → t ≡ pat
 log-over n w cells log times t q e = sym (ap (λ (x : Bool). x && is-book (log-book n w cells log times)) (sym q ∙ not-true t e))
 
 -- they are kept, and the log is replayed
-pub log-judged : (n w : ℕ) (cells s : List ℕ) (a b i : ℕ) (t : Bool) → t ≡ paths-within n w cells → not t ≡ false → (u : Bool)
-    → u ≡ is-book (log-book n w cells (take (a + i - a) (drop a s)) (take (length s - b) (drop b s)))
+pub log-judged : (n w : ℕ) (cells s : List ℕ) (a b i : ℕ) (x y : List ℕ) → x ≡ take i (drop a s) → y ≡ take (length s) (drop b s)
+    → (t : Bool) → t ≡ paths-within n w cells → not t ≡ false → (u : Bool)
+    → u ≡ is-book (log-book n w cells x y)
     → u ≡ (paths-within n w cells && is-book (log-book n w cells (take i (drop a s)) (drop b s)))
-log-judged n w cells s a b i t q e u f =
-    f ∙ ap₂ {C = Bool} (λ (x y : List ℕ). is-book (log-book n w cells x y)) (span-is s a i) (rest-is s b)
-    ∙ sym (ap (λ (x : Bool). x && is-book (log-book n w cells (take i (drop a s)) (drop b s))) (sym q ∙ not-false t e))
+log-judged n w cells s a b i x y f g t q e u h =
+    h ∙ ap₂ {C = Bool} (λ (l m : List ℕ). is-book (log-book n w cells l m)) f (g ∙ rest-of s b)
+    ∙ sym (ap (λ (l : Bool). l && is-book (log-book n w cells (take i (drop a s)) (drop b s))) (sym q ∙ not-false t e))
 
 -- ---- what is held
 

@@ -9,7 +9,7 @@ use mathlib.Core.Bool.{Bool, true, false, not, _&&_, cond, and-assoc, and-false}
 use mathlib.Core.List.{List, [], _∷_, _++_, append-assoc}
 use lib.Dec.{eqb, eqb·zero-suc, eqb·suc-zero, lit<, lit≤}
 use lib.ListN.{length, take, drop, getD, replicate, length-append, length-take, length-drop, length-map, replicate-append-replicate, List·getD-eq-default, drop-of-length-le}
-use lib.Seq.{take-add, drop-drop, drop-cons, length-take-le, getD-take, getD-drop}
+use lib.Seq.{take-nil, take-add, take-all, drop-drop, drop-cons, length-take-le, getD-take, getD-drop}
 use borrow.Author.Tests.{not-true, not-false}
 use Rattle.laws.proofs.Tests.{passes, equal-passes, unequal-fails, below-or-not}
 use Rattle.words.specs.Words.{little, word, words, padded}
@@ -17,7 +17,6 @@ use Rattle.words.proofs.Padding.{padded-length}
 use Rattle.words.proofs.Reading.{words-length, word-little}
 use Rattle.csv.specs.Text.{same}
 use Rattle.csv.proofs.Text.{same-self}
-use Rattle.csv.proofs.Reading.{rest-is}
 use Rattle.floor.specs.Tables.{Tables}
 use Rattle.schedule.specs.Book.{Report}
 use Rattle.book.specs.Log.{entries}
@@ -30,6 +29,24 @@ use Rattle.slice.proofs.Slice.{carts-of, times-of, in-a-row}
 -- every place is a byte
 abbrev pub AllBytes : List ℕ → Type 0
 AllBytes s = (i : ℕ) → getD s i 0 < 256
+
+-- ---- n places from place a on
+
+-- none, where the slice ends before them
+pub part-over : (s : List ℕ) (a n : ℕ) → length s < a → [] ≡ take n (drop a s)
+part-over s a n h = sym (ap (take n) (drop-of-length-le s {i = a} (omega arith)) ∙ take-nil n)
+
+-- as many as there are, where they are fewer
+pub part-rest : (s : List ℕ) (a n : ℕ) → length s - a < n → take (length s - a) (drop a s) ≡ take n (drop a s)
+part-rest s a n h = take-all (length s - a) (drop a s) (omega (arith, length-drop a s)) ∙ sym (take-all n (drop a s) (omega (arith, length-drop a s)))
+
+-- else all
+pub part-all : (s : List ℕ) (a n : ℕ) → take (a + n - a) (drop a s) ≡ take n (drop a s)
+part-all s a n = let e : a + n - a ≡ n = omega arith in ap (λ (i : ℕ). take i (drop a s)) e
+
+-- as many as the slice has are all from there on
+pub rest-of : (s : List ℕ) (a : ℕ) → take (length s) (drop a s) ≡ drop a s
+rest-of s a = take-all (length s) (drop a s) (omega (arith, length-drop a s))
 
 -- ---- the bytes before the first zero
 
@@ -313,12 +330,13 @@ module _ (s : List ℕ) (long : 233_472 ≤ length s) (bytes : AllBytes s) where
       ap₂ {C = Layout} (λ (b : Bool) (n : ℕ). cond b (Layout.Parts (length (ts .roads)) (length (ts .carts)) (length (ts .paths)) n) Layout.Broken)
       (sym nothing-else-is) (sym (entries-count carts-in-log (drop 200_704 s)))
 
-  -- as the code finds it
-  pub layout-found : (x : Layout)
-      → x ≡ texts-laid (take 65_536 s) (take 65_536 (drop 65_536 s)) (take 65_536 (drop 131_072 s)) (take 4096 (drop 196_608 s)) (take (length s - 200_704) (drop 200_704 s))
-      → x ≡ layout s
-  layout-found x e =
-      e ∙ ap (texts-laid (take 65_536 s) (take 65_536 (drop 65_536 s)) (take 65_536 (drop 131_072 s)) (take 4096 (drop 196_608 s))) (rest-is s 200_704) ∙ layout-is
+  -- as the code finds it, part by part
+  pub layout-found : (carts paths log times : List ℕ) → carts ≡ take 65_536 (drop 65_536 s) → paths ≡ take 65_536 (drop 131_072 s)
+      → log ≡ take 4096 (drop 196_608 s) → times ≡ take (length s) (drop 200_704 s)
+      → (x : Layout) → x ≡ texts-laid (take 65_536 s) carts paths log times → x ≡ layout s
+  layout-found carts paths log times ec ep el et x e =
+      e ∙ ap₂ {C = Layout} (λ (l m : List ℕ). texts-laid (take 65_536 s) l m log times) ec ep
+      ∙ ap₂ {C = Layout} (texts-laid (take 65_536 s) (take 65_536 (drop 65_536 s)) (take 65_536 (drop 131_072 s))) el (et ∙ rest-of s 200_704) ∙ layout-is
 
 -- ---- what the code finds of the texts
 

@@ -36,6 +36,19 @@ enum Layout {
     },
 }
 
+// The part of a slice of this size from this place on, or as much of it as there is.
+pub fn part(s: &[u8], from: usize, size: usize) -> &[u8]
+    ensures { λ r. ⌜ now r ≡ take size (drop from (now (s .entry))) ⌝ }
+{
+    if s.len() < from {
+        return &s[..0];
+    }
+    if s.len() - from < size {
+        return &s[from..];
+    }
+    &s[from..from + size]
+}
+
 // Whether paths in an array keep the limits and the n reports of a slice's log are accepted in their turn.
 fn accepts_log(plan: &[u8], n: usize, cells: &[u32], carts: usize, steps: usize) -> bool
     requires { ⌜ (233472 ≤ length (now plan)) × (n ≤ 4096) ⌝ }
@@ -44,13 +57,9 @@ fn accepts_log(plan: &[u8], n: usize, cells: &[u32], carts: usize, steps: usize)
     if !limits::within_limits(cells, carts, steps) {
         return false;
     }
-    book::accepts(
-        cells,
-        carts,
-        steps,
-        &plan[196_608..196_608 + n],
-        &plan[200_704..],
-    )
+    let log = part(plan, 196_608, n);
+    let times = part(plan, 200_704, plan.len());
+    book::accepts(cells, carts, steps, log, times)
 }
 
 // Reads the tables of a slice, of r, c and p bytes.
@@ -69,14 +78,9 @@ fn read_texts(
     ensures speeds { λ _. ⌜ now (speeds .exit) ≡ read-into (take r (now (plan .entry))) (take c (drop 65536 (now (plan .entry)))) (take p (drop 131072 (now (plan .entry)))) (now (edges .entry)) (now (speeds .entry)) (now (cells .entry)) .arrays .carts ⌝ }
     ensures cells { λ _. ⌜ now (cells .exit) ≡ read-into (take r (now (plan .entry))) (take c (drop 65536 (now (plan .entry)))) (take p (drop 131072 (now (plan .entry)))) (now (edges .entry)) (now (speeds .entry)) (now (cells .entry)) .arrays .cells ⌝ }
 {
-    tables::read_tables(
-        &plan[..r],
-        &plan[65_536..65_536 + c],
-        &plan[131_072..131_072 + p],
-        edges,
-        speeds,
-        cells,
-    )
+    let carts = part(plan, 65_536, c);
+    let paths = part(plan, 131_072, p);
+    tables::read_tables(&plan[..r], carts, paths, edges, speeds, cells)
 }
 
 // Reads the plan of a slice that is laid out so: what is held, with its numbers in the arrays.

@@ -1,5 +1,6 @@
 // How a plan slice is laid out: each of its parts is bytes other than zero, and zeros after them.
 use crate::Layout;
+use crate::part;
 ghost use mathlib.Core.Path.{_≡_};
 ghost use Prim.Native.Nat.{_≤_};
 ghost use lib.ListN.{length, drop};
@@ -72,11 +73,9 @@ pub(crate) fn find_parts(plan: &[u8]) -> Layout
     requires { ⌜ 233472 ≤ length (now plan) ⌝ }
     ensures { λ r. ⌜ r ≡ layout (now (plan .entry)) ⌝ }
 {
-    find_texts(
-        &plan[..65_536],
-        &plan[65_536..131_072],
-        &plan[131_072..196_608],
-        &plan[196_608..200_704],
-        &plan[200_704..],
-    )
+    let carts = part(plan, 65_536, 65_536);
+    let paths = part(plan, 131_072, 65_536);
+    let log = part(plan, 196_608, 4096);
+    let times = part(plan, 200_704, plan.len());
+    find_texts(&plan[..65_536], carts, paths, log, times)
 }

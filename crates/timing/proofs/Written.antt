@@ -45,8 +45,7 @@ use Rattle.schedule.proofs.Logged.{Logged, logged-kept, bound-ends as ends-belo
 use Rattle.schedule.proofs.Numbers.{added-few}
 use Rattle.slice.specs.PlanSlice.{until-zero, tables-in, log-in, Held, nothing-else, held-by, held}
 use Rattle.slice.proofs.Slice.{held-says}
-use Rattle.slice.proofs.Laid.{text-front, part-short, entries-count}
-use Rattle.slice.proofs.Holds.{span-is}
+use Rattle.slice.proofs.Laid.{text-front, rest-of, part-short, entries-count}
 use Rattle.bounds.specs.declared.Network.{Network}
 use Rattle.timing.specs.declared.Bounding.{Bounding}
 use Rattle.timing.specs.Bounding.{log-of, Holds, bounding, held-bounds}
@@ -175,7 +174,8 @@ part-written g ys t u k h q long =
     part-stored (flatMap g ys) t u (2 * k) (omega (arith, rest, all, long, length-drop (length (flatMap g ys)) part)) q
 
 -- where two arrays have room for what a log adds behind k bounds, it is stored there
-module _ (s cells : List ℕ) (n carts w k : ℕ) (e r : List ℕ) (few : k ≤ 8192) (he : 24_576 ≤ length e) (hr : 24_576 ≤ length r) where
+module _ (s cells : List ℕ) (n carts w k : ℕ) (e r : List ℕ) (few : k ≤ 8192) (he : 24_576 ≤ length e) (hr : 24_576 ≤ length r)
+    (log times : List ℕ) (is-log : log ≡ take n (drop 196_608 s)) (is-times : times ≡ take (length s) (drop 200_704 s)) where
   abbrev part-e : List ℕ
   part-e = midOf (2 * k) (length e - 2 * k) e
 
@@ -183,15 +183,14 @@ module _ (s cells : List ℕ) (n carts w k : ℕ) (e r : List ℕ) (few : k ≤ 
   part-r = midOf (2 * k) (length r - 2 * k) r
 
   abbrev of-log : Option Book
-  of-log = book-fitting (length part-e) (length part-r) (log-book carts w cells (take (196_608 + n - 196_608) (drop 196_608 s)) (take (length s - 200_704) (drop 200_704 s)))
+  of-log = book-fitting (length part-e) (length part-r) (log-book carts w cells log times)
 
   log-is : of-log ≡ log-of s n cells carts w
   unfolding book-fitting log-of
   log-is =
-      let o : Option Book = log-book carts w cells (take (196_608 + n - 196_608) (drop 196_608 s)) (take (length s - 200_704) (drop 200_704 s)) in
       let room : (leb 8192 (length part-e) && leb 8192 (length part-r)) ≡ true =
       ap (λ (b : Bool). b && leb 8192 (length part-r)) (le-leb 8192 (length part-e) (part-room e k (length e) refl he few)) ∙ le-leb 8192 (length part-r) (part-room r k (length r) refl hr few) in
-      ap (λ (b : Bool). cond b o none) room ∙ ap₂ (log-book carts w cells) (span-is s 196_608 n) (rest-is s 200_704)
+      ap (λ (b : Bool). cond b (log-book carts w cells log times) none) room ∙ ap₂ (log-book carts w cells) is-log (is-times ∙ rest-of s 200_704)
 
   pub log-left : (y : Added) (u v : List ℕ) → length u ≡ length part-e → length v ≡ length part-r
       → (y ≡ added-answer (of-paths (paths-in carts w cells)) of-log)

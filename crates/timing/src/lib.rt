@@ -42,12 +42,14 @@ fn write_log(
     ensures left { λ _. ⌜ now (ends .exit) ≡ sets (now (ends .entry)) (2 * own) (flatMap bound-ends (added-of (of-paths (paths-in carts steps (now (cells .entry)))) (log-of (now (plan .entry)) n (now (cells .entry)) carts steps))) ⌝ }
     ensures left_ranges { λ _. ⌜ now (ranges .exit) ≡ sets (now (ranges .entry)) (2 * own) (flatMap bound-range (added-of (of-paths (paths-in carts steps (now (cells .entry)))) (log-of (now (plan .entry)) n (now (cells .entry)) carts steps))) ⌝ }
 {
+    let log = slice::part(plan, 196_608, n);
+    let times = slice::part(plan, 200_704, plan.len());
     book::write_added(
         cells,
         carts,
         steps,
-        &plan[196_608..196_608 + n],
-        &plan[200_704..],
+        log,
+        times,
         &mut ends[2 * own..],
         &mut ranges[2 * own..],
     )

@@ -4,8 +4,17 @@ use Rattle.timing.proofs.Written.{log-left}
 use Rattle.timing.proofs.write_log.Statement.{statement}
 use Rattle.timing.proofs.write_log.Tie as tie
 
-add-write-added : tie.Need-add-write-added
-add-write-added c = search needs
+part-requires : tie.Need-part-requires
+part-requires c κs = search needs
+
+part-requires-2 : tie.Need-part-requires-2
+part-requires-2 c κs = search needs
+
+mul-write-added : tie.Need-mul-write-added
+mul-write-added c = search needs
+
+mul-write-added-2 : tie.Need-mul-write-added-2
+mul-write-added-2 c = search needs
 
 sub-write-added : tie.Need-sub-write-added
 sub-write-added c = search needs
@@ -16,6 +25,12 @@ part-write-added-start c = search needs
 part-write-added-end : tie.Need-part-write-added-end
 part-write-added-end c = search needs
 
+mul-write-added-3 : tie.Need-mul-write-added-3
+mul-write-added-3 c = search needs
+
+mul-write-added-4 : tie.Need-mul-write-added-4
+mul-write-added-4 c = search needs
+
 sub-write-added-2 : tie.Need-sub-write-added-2
 sub-write-added-2 c = search needs
 
@@ -24,36 +39,6 @@ part-write-added-start-2 c = search needs
 
 part-write-added-end-2 : tie.Need-part-write-added-end-2
 part-write-added-end-2 c = search needs
-
-mul-write-added : tie.Need-mul-write-added
-mul-write-added c = search needs
-
-mul-write-added-2 : tie.Need-mul-write-added-2
-mul-write-added-2 c = search needs
-
-sub-write-added-3 : tie.Need-sub-write-added-3
-sub-write-added-3 c = search needs
-
-part-write-added-start-3 : tie.Need-part-write-added-start-3
-part-write-added-start-3 c = search needs
-
-part-write-added-end-3 : tie.Need-part-write-added-end-3
-part-write-added-end-3 c = search needs
-
-mul-write-added-3 : tie.Need-mul-write-added-3
-mul-write-added-3 c = search needs
-
-mul-write-added-4 : tie.Need-mul-write-added-4
-mul-write-added-4 c = search needs
-
-sub-write-added-4 : tie.Need-sub-write-added-4
-sub-write-added-4 c = search needs
-
-part-write-added-start-4 : tie.Need-part-write-added-start-4
-part-write-added-start-4 c = search needs
-
-part-write-added-end-4 : tie.Need-part-write-added-end-4
-part-write-added-end-4 c = search needs
 
 write-added-requires : tie.Need-write-added-requires
 write-added-requires c κs = search needs
@@ -67,32 +52,30 @@ same-length-2 c = search needs
 returns : tie.Need-returns
 returns c =
     let w = c .before .before .before .before in
-    let s = w .before .before .before .before .before .before .before .before .before in
+    let t = w .before .before .before in
+    let l = t .before in
+    let s = l .before .before .before .before .before in
     let a = s .args in
-    log-left (a .plan .now) (a .cells .now) (a .n) (a .carts) (a .steps) (a .own) (a .ends .now) (a .ranges .now) (s .pre .2) (s .pre .3) (s .pre .4) (w .write-added .result) _ _
+    log-left (a .plan .now) (a .cells .now) (a .n) (a .carts) (a .steps) (a .own) (a .ends .now) (a .ranges .now) (s .pre .2) (s .pre .3) (s .pre .4)
+    _ _ (l .part .ensures) (t .part2 .ensures) (w .write-added .result) _ _
     (w .write-added .kept .1 .1 .1 .1 .1 .0) (w .write-added .kept .1 .1 .1 .1 .1 .1 .0) (w .write-added .ensures)
 
 pub write-log-spec : {M : Type 1} → statement M
 write-log-spec =
     tie.close
     (tie.spec
-    add-write-added
+    part-requires
+    part-requires-2
+    mul-write-added
+    mul-write-added-2
     sub-write-added
     part-write-added-start
     part-write-added-end
+    mul-write-added-3
+    mul-write-added-4
     sub-write-added-2
     part-write-added-start-2
     part-write-added-end-2
-    mul-write-added
-    mul-write-added-2
-    sub-write-added-3
-    part-write-added-start-3
-    part-write-added-end-3
-    mul-write-added-3
-    mul-write-added-4
-    sub-write-added-4
-    part-write-added-start-4
-    part-write-added-end-4
     write-added-requires
     same-length
     same-length-2
