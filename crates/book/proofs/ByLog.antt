@@ -9,7 +9,7 @@ use mathlib.Core.List.{List, [], _∷_, _++_, map, tail, flatMap, append-assoc, 
 use mathlib.Core.Option.{some, Option·some-injective}
 use lib.Dec.{eqb}
 use lib.ListN.{length, getD, take, drop, set}
-use Rattle.laws.proofs.Tests.{equal-passes, unequal-fails}
+use borrow.Author.Tests.{eq-eqb, ne-eqb}
 use Rattle.floor.specs.Plan.{Cart, Plan}
 use Rattle.network.specs.Events.{Point, places, visits-of, points, Route, routes, routes-of, route-points, route-events}
 use Rattle.network.specs.Bounds.{Bound}
@@ -39,7 +39,7 @@ unfolding times-of
 logged-past r rs j [] h = refl
 logged-past r rs j (ts ∷ tss) h =
     ap₂ (λ (x : List ℕ) (y : List (List ℕ)). (ts ++ x) ∷ y)
-    (sym (ap (λ (b : Bool). cond b (r .time ∷ times-of j rs) (times-of j rs)) (unequal-fails (r .cart) j (λ e. omega arith))))
+    (sym (ap (λ (b : Bool). cond b (r .time ∷ times-of j rs) (times-of j rs)) (ne-eqb (r .cart) j (λ e. omega arith))))
     (logged-past r rs (suc j) tss (omega arith))
 
 -- a report of one of these adds its time
@@ -58,13 +58,13 @@ logged-one r rs j (ts ∷ tss) h = by (ℕ-discrete (r .cart) j) (λ l. logged-o
         let z : r .cart - j ≡ 0 = omega (arith, e) in
         ap (λ (k : ℕ). logged rs j (put k)) z
         ∙ ap₂ (λ (x : List ℕ) (y : List (List ℕ)). x ∷ y)
-        (append-assoc ts (r .time ∷ []) (times-of j rs) ∙ ap (λ (x : List ℕ). ts ++ x) (sym (ap (λ (b : Bool). cond b (r .time ∷ times-of j rs) (times-of j rs)) (equal-passes (r .cart) j e))))
+        (append-assoc ts (r .time ∷ []) (times-of j rs) ∙ ap (λ (x : List ℕ). ts ++ x) (sym (ap (λ (b : Bool). cond b (r .time ∷ times-of j rs) (times-of j rs)) (eq-eqb (r .cart) j e))))
         (logged-past r rs (suc j) tss (omega (arith, e)))
     by (no n) more =
         let z : r .cart - j ≡ suc (r .cart - suc j) = far n in
         ap (λ (k : ℕ). logged rs j (put k)) z
         ∙ ap₂ (λ (x : List ℕ) (y : List (List ℕ)). (ts ++ x) ∷ y)
-        (sym (ap (λ (b : Bool). cond b (r .time ∷ times-of j rs) (times-of j rs)) (unequal-fails (r .cart) j n)))
+        (sym (ap (λ (b : Bool). cond b (r .time ∷ times-of j rs) (times-of j rs)) (ne-eqb (r .cart) j n)))
         (more (later n))
       where
         later : ¬ (r .cart ≡ j) → suc j ≤ r .cart

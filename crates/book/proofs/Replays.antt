@@ -4,7 +4,7 @@ use native.Mathlib.Numerals.{add-one}
 use native.Mathlib.Omega.{arith}
 use mathlib.Core.Path.{_≡_, refl, ap, sym, _∙_, subst}
 use mathlib.Core.Logic.{⊎-elim}
-use mathlib.Core.Bool.{Bool, true, false, _&&_, not, cond}
+use mathlib.Core.Bool.{Bool, true, false, _&&_, not, cond, and-false}
 use mathlib.Core.List.{List, [], _∷_, _++_, map}
 use mathlib.Core.Option.{none}
 use lib.Dec.{T, leb, ltb, leb→le, ltb→lt}
@@ -22,11 +22,6 @@ use Rattle.book.specs.declared.Replayed.{Replayed}
 use Rattle.book.specs.Log.{entries}
 use Rattle.book.specs.Replaying.{next-fits, report-fits, Firsts, replayed}
 use Rattle.book.proofs.Starts.{points-between}
-
--- a test that fails fails the whole
-and-false : (x : Bool) → (x && false) ≡ false
-and-false true = refl
-and-false false = refl
 
 -- ---- whether a cart has a point to pass
 

@@ -8,10 +8,10 @@ use mathlib.Core.Logic.{_⊎_, inl, inr}
 use mathlib.Core.Bool.{Bool, true, false, _&&_, cond}
 use mathlib.Core.List.{List, [], _∷_, _++_, flatMap, List·Memᴰ, List·Memᴰ·head, List·Memᴰ·tail}
 use lib.Dec.{eqb, ltb}
-use borrow.Author.Tests.{lt-ltb, le-ltb}
+use borrow.Author.Tests.{lt-ltb, le-ltb, eq-eqb, ne-eqb}
 use lib.ListN.{length, getD, drop, length-append, drop-of-length-le}
 use lib.Seq.{sets, length-sets}
-use Rattle.laws.proofs.Tests.{equal-passes, unequal-fails, below-or-not}
+use Rattle.laws.proofs.Tests.{below-or-not}
 use Rattle.words.specs.Words.{word-at}
 use Rattle.network.specs.Bounds.{Bound}
 use Rattle.network.specs.BoundArrays.{bound-ends, hi-number, bound-range, has-place, with-pair}
@@ -71,21 +71,21 @@ module _ (log times : List ℕ) (c i : ℕ) (l : i < length log) where
   unfolding times-of
   times-mine e =
       ap (times-of c) (entry-at log times i l)
-      ∙ ap (λ (b : Bool). cond b (word-at 8 times i ∷ after-here) after-here) (equal-passes (getD log i 0) c e)
+      ∙ ap (λ (b : Bool). cond b (word-at 8 times i ∷ after-here) after-here) (eq-eqb (getD log i 0) c e)
 
   -- or of another
   pub times-other : ¬ (getD log i 0 ≡ c) → from-here ≡ after-here
   unfolding times-of
   times-other h =
       ap (times-of c) (entry-at log times i l)
-      ∙ ap (λ (b : Bool). cond b (word-at 8 times i ∷ after-here) after-here) (unequal-fails (getD log i 0) c h)
+      ∙ ap (λ (b : Bool). cond b (word-at 8 times i ∷ after-here) after-here) (ne-eqb (getD log i 0) c h)
 
   module _ (e next : ℕ) where
     -- it is of another cart
     pub one-other : ¬ (getD log i 0 ≡ c) → one-reported log times i c e next ≡ []
     unfolding one-reported
     one-other h =
-        ap (λ (b : Bool). cond (b && ltb e next) (reported-bound (record { event = e; time = word-at 8 times i }) ∷ []) []) (unequal-fails (getD log i 0) c h)
+        ap (λ (b : Bool). cond (b && ltb e next) (reported-bound (record { event = e; time = word-at 8 times i }) ∷ []) []) (ne-eqb (getD log i 0) c h)
 
     -- or there is no event left
     pub one-full : next ≤ e → one-reported log times i c e next ≡ []
@@ -100,7 +100,7 @@ module _ (log times : List ℕ) (c i : ℕ) (l : i < length log) where
     one-mine : getD log i 0 ≡ c → e < next → one-reported log times i c e next ≡ reported-bound (record { event = e; time = word-at 8 times i }) ∷ []
     unfolding one-reported
     one-mine q h =
-        ap (λ (b : Bool). cond (b && ltb e next) (reported-bound (record { event = e; time = word-at 8 times i }) ∷ []) []) (equal-passes (getD log i 0) c q)
+        ap (λ (b : Bool). cond (b && ltb e next) (reported-bound (record { event = e; time = word-at 8 times i }) ∷ []) []) (eq-eqb (getD log i 0) c q)
         ∙ ap (λ (b : Bool). cond b (reported-bound (record { event = e; time = word-at 8 times i }) ∷ []) []) (lt-ltb e next h)
 
     -- by a time that is read there

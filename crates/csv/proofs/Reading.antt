@@ -6,7 +6,7 @@ use native.Mathlib.Numerals.{add-one}
 use native.Mathlib.Omega.{arith}
 use mathlib.Core.Path.{_≡_, refl, ap, sym, _∙_, subst}
 use mathlib.Core.Logic.{_⊎_, inl, inr}
-use mathlib.Core.Bool.{Bool, true, false, _&&_, not, cond}
+use mathlib.Core.Bool.{Bool, true, false, _&&_, not, cond, and-false}
 use mathlib.Core.List.{List, [], _∷_, _++_}
 use mathlib.Core.Option.{Option, none, some, Option·none-ne-some, Option·some-injective}
 use lib.Dec.{T, eqb, leb, eqb→eq}
@@ -31,14 +31,10 @@ rest-is t a = take-all (length t - a) (drop a t) (omega (arith, length-drop a t)
 abbrev pub ends : ℕ → ℕ → Bool
 ends b c = eqb b 13 && eqb c 10
 
-no-lf : (t : Bool) → (t && false) ≡ false
-no-lf true = refl
-no-lf false = refl
-
 -- a byte in front, for the first piece
 push-first : (b : ℕ) (p : List ℕ) (ps : List (List ℕ)) → getD (push b (p ∷ ps)) 0 [] ≡ cond (ends b (getD p 0 0)) [] (b ∷ p)
 unfolding push
-push-first b [] ps = rw (no-lf (eqb b 13)) refl
+push-first b [] ps = rw (and-false (eqb b 13)) refl
 push-first b (c ∷ p) ps = by (ends b c)
   where
     by : (t : Bool) → getD (cond t ([] ∷ p ∷ ps) ((b ∷ c ∷ p) ∷ ps)) 0 [] ≡ cond t [] (b ∷ c ∷ p)

@@ -29,8 +29,8 @@ use Rattle.schedule.proofs.ChainSizes.{chain-numbers}
 use Rattle.schedule.proofs.Times.{timetable-earliest, timetable-counted, timetable-length, timetable-range, no-timetable-chain, no-timetable-none-fit}
 use Rattle.hegtalim.specs.declared.Timed.{Timed}
 use Rattle.slice.specs.PlanSlice.{plan-need, plan-slice, Held, held}
-use Rattle.schedule.specs.Lent.{Lent, times-written, chain-written}
-use Rattle.hegtalim.specs.Outcomes.{Load, load, book-answer, Reporting, report, long-enough, meets-needs, Timetabled, too-short, no-plan, timed, no-times}
+use Rattle.schedule.specs.Lent.{Lent, long-enough, times-written, chain-written}
+use Rattle.hegtalim.specs.Outcomes.{Load, load, book-answer, Reporting, report, meets-needs, Timetabled, too-short, no-plan, timed, no-times}
 use Rattle.hegtalim.specs.Claim.{Call, reporting, timing, Reply, reported, Replies, to-report, to-timetable, Played, done, then, book-after-call, book-after-calls, Right, AllRight, times-in, Earliest, Impossible, Truthful, Demand-3, Answered}
 use Rattle.hegtalim.specs.Claim as Claim
 use Rattle.slice.proofs.Slice.{held-slice, slice-length, held-says}

@@ -26,9 +26,9 @@ use Rattle.hegtalim.specs.declared.Loaded.{Loaded}
 use Rattle.hegtalim.specs.declared.Reported.{Reported}
 use Rattle.hegtalim.specs.declared.Timed.{Timed}
 use Rattle.slice.specs.PlanSlice.{plan-need, plan-slice, Held, held}
-use Rattle.hegtalim.specs.Outcomes.{times-need, chain-bounds-need, chain-directions-need}
-use Rattle.schedule.specs.Lent.{Lent, times-written, chain-written}
-use Rattle.hegtalim.specs.Outcomes.{Load, load-judged, load, Reporting, report-held, report, long-enough, meets-needs, Timetabled, too-short, no-plan, timed, no-times}
+use Rattle.schedule.specs.Lent.{Lent, long-enough, times-written, chain-written}
+use Rattle.schedule.proofs.Lent.{Room, room}
+use Rattle.hegtalim.specs.Outcomes.{Load, load-judged, load, Reporting, report-held, report, meets-needs, Timetabled, too-short, no-plan, timed, no-times}
 use Rattle.slice.proofs.Slice.{slice-length, held-says}
 
 -- ---- load and report
@@ -83,23 +83,10 @@ pub record SameLengths (l l′ : Lent) : Type 0 where
 unchanged : (l : Lent) → SameLengths l l
 unchanged l = record { times = refl; chain-bounds = refl; chain-directions = refl }
 
--- the needs, of slices that meet them
-record Needs (l : Lent) : Type 0 where
-  times : times-need ≤ length (l .times)
-  chain-bounds : chain-bounds-need ≤ length (l .chain-bounds)
-  chain-directions : chain-directions-need ≤ length (l .chain-directions)
-
-needs-of : (s : List ℕ) (l : Lent) → meets-needs s l ≡ true → Needs l
-unfolding meets-needs long-enough
-needs-of s l e =
-    let (a, c) = and-yes (leb plan-need (length s)) (long-enough l) (subst T (sym e) tt) in
-    let (x, z) = and-yes (leb times-need (length (l .times)) && leb chain-bounds-need (length (l .chain-bounds))) (leb chain-directions-need (length (l .chain-directions))) c in
-    let (t, b) = and-yes (leb times-need (length (l .times))) (leb chain-bounds-need (length (l .chain-bounds))) x in
-    record {
-      times = leb→le times-need (length (l .times)) t;
-      chain-bounds = leb→le chain-bounds-need (length (l .chain-bounds)) b;
-      chain-directions = leb→le chain-directions-need (length (l .chain-directions)) z;
-    }
+-- slices that meet their needs have room
+has-room : (s : List ℕ) (l : Lent) → meets-needs s l ≡ true → Room l
+unfolding meets-needs
+has-room s l e = room l (and-yes (leb plan-need (length s)) (long-enough l) (subst T (sym e) tt) .1)
 
 held-logged : (s : List ℕ) (h : Held) → held s ≡ some h → Logged (h .plan) (h .book) × (event-count (h .plan) ≤ 4096)
 held-logged s h e =
@@ -112,7 +99,7 @@ timetable-lengths s l l′ a (too-short e) = unchanged l
 timetable-lengths s l l′ a (no-plan e f) = unchanged l
 timetable-lengths s l l′ a (timed e h f t g) =
     let (k, few) = held-logged s h f in
-    let need = needs-of s l e .times in
+    let need = has-room s l e .times-long in
     record {
       times = written-length (words 8 (t .times)) (l .times) (omega (arith, words-length 8 (t .times), timetable-length (h .plan) (h .book) k t g, few, need));
       chain-bounds = refl;
@@ -123,8 +110,8 @@ timetable-lengths s l l′ a (no-times e h f g is c) =
     let short = chain-short (h .plan) (h .book) k is c in
     let numbers : List ℕ = map (λ (i : Item). i .number) is in
     let directions : List ℕ = map (λ (i : Item). direction-number (i .direction)) is in
-    let places = needs-of s l e .chain-bounds in
-    let rooms = needs-of s l e .chain-directions in
+    let places = has-room s l e .bounds-long in
+    let rooms = has-room s l e .directions-long in
     record {
       times = refl;
       chain-bounds = written-length (words 2 numbers) (l .chain-bounds) (omega (arith, words-length 2 numbers, length-map is (λ (i : Item). i .number), short, few, places));

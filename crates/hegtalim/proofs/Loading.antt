@@ -17,7 +17,7 @@ use Rattle.floor.specs.Tables.{Tables, read-tables}
 use Rattle.tables.specs.Arrays.{path-cells}
 use Rattle.tables.specs.Reading.{Outcome, read-answer, arrays-judged, numbers-of, read-into}
 use Rattle.floor.proofs.Judging.{goes-on, ends}
-use Rattle.tables.proofs.TablesRead.{answer-refused, answer-read, into-judged, room-for}
+use Rattle.tables.proofs.TablesRead.{answer-refused, answer-read, answer-numbers, into-judged, room-for}
 use Rattle.network.specs.Judge.{within-limits, judge}
 use Rattle.limits.specs.Limits.{limits-kept, paths-within}
 use Rattle.limits.proofs.Kept.{within-kept, within-over, paths-within-is}
@@ -39,25 +39,6 @@ said-refused ts r e = sym (ap (λ (j : Judged Plan). load-judged ts 0 j .answer)
 said-held : (ts : Tables) (p : Plan) → judge ts ≡ accepted p → Loaded.Held ≡ said ts
 unfolding load-judged
 said-held ts p e = sym (ap (λ (j : Judged Plan). load-judged ts 0 j .answer) e)
-
--- what an answer tells of a plan
-carts-told : Reading → ℕ
-carts-told (Reading.Read n m w) = m
-carts-told Reading.TooShort = 0
-carts-told (Reading.Refused r) = 0
-
-steps-told : Reading → ℕ
-steps-told (Reading.Read n m w) = w
-steps-told Reading.TooShort = 0
-steps-told (Reading.Refused r) = 0
-
-carts-of : {n m w i j l : ℕ} → Reading.Read n m w ≡ Reading.Read i j l → m ≡ j
-unfolding carts-told
-carts-of e = ap carts-told e
-
-steps-of : {n m w i j l : ℕ} → Reading.Read n m w ≡ Reading.Read i j l → w ≡ l
-unfolding steps-told
-steps-of e = ap steps-told e
 
 -- the reader had room for the limits
 module _ (r c p e s k : List ℕ) (a : 4096 ≤ length e) (b : 128 ≤ length s) (d : 8192 ≤ length k) where
@@ -90,8 +71,8 @@ module _ (ts : Tables) where
     unfolding read-answer
     kept =
         let (x, e) = plan in
-        let told : Reading.Read n m w ≡ read-answer (accepted x) = q ∙ ap read-answer e in
-        found ∙ ap (paths-within m w) (left x e) ∙ ap₂ (λ (i j : ℕ). paths-within i j (padded size (path-cells (x .paths)))) (carts-of told) (steps-of told) ∙ paths-within-is ts x e size d
+        let (_, (carts-are, steps-are)) = answer-numbers x n m w (q ∙ ap read-answer e) in
+        found ∙ ap (paths-within m w) (left x e) ∙ ap₂ (λ (i j : ℕ). paths-within i j (padded size (path-cells (x .paths)))) carts-are steps-are ∙ paths-within-is ts x e size d
 
     -- within the limits
     pub judged-held : t ≡ true → Loaded.Held ≡ said ts

@@ -1,10 +1,9 @@
 -- The answers' numbers, the needs, and calls that are turned down before the tables are read. Assumes nothing.
 use Prim.Native.Nat.{ℕ}
 use mathlib.Core.Path.{_≡_, refl}
-use mathlib.Core.Bool.{true, false}
 use mathlib.Core.List.{[], _∷_, map}
 use mathlib.Core.Option.{none, some}
-use lib.ListN.{length, replicate}
+use lib.ListN.{replicate}
 use Rattle.floor.specs.declared.Reason.the-variants.{Layout, Range, RoadPair, Limit, NoCarts, PathCount, OffRoad, SameCell, Exchange}
 use Rattle.floor.specs.declared.Reason.{Reason}
 use Rattle.floor.specs.declared.Table.the-variants.{Roads, Carts, Paths}
@@ -12,16 +11,14 @@ use Rattle.floor.specs.Refusal.{refused}
 use Rattle.floor.specs.Plan.{Plan}
 use Rattle.floor.specs.Tables.{Tables}
 use Rattle.schedule.specs.Book.{Report, _at_}
-use Rattle.schedule.specs.Chain.{onward, back}
 use Rattle.hegtalim.specs.declared.Loaded.{Loaded}
 use Rattle.hegtalim.specs.declared.Reported.{Reported}
 use Rattle.hegtalim.specs.declared.Timed.{Timed}
-use Rattle.words.specs.Words.{open-words}
 use Rattle.schedule.specs.Open.{open-schedule}
 use Rattle.hegtalim.specs.Answers.{open-answers, loaded-answer, reported-answer, timed-answer, c-number}
 use Rattle.slice.specs.PlanSlice.{plan-slice}
-use Rattle.schedule.specs.Lent.{Lent, times-written, chain-written}
-use Rattle.hegtalim.specs.Outcomes.{open-outcomes, load, load-judged, report, report-held, long-enough, Timetabled, too-short}
+use Rattle.schedule.specs.Lent.{Lent}
+use Rattle.hegtalim.specs.Outcomes.{open-outcomes, load, load-judged, report, report-held, Timetabled, too-short}
 
 -- each reason has the document's number
 reasons-follow : map (λ (why : Reason). loaded-answer (Loaded.Refused (record { reason = why; table = Paths; row = 7 })) .refusal)
@@ -74,28 +71,11 @@ reports-follow : report (9 ∷ []) (3 at 20) ∷ report-held (9 ∷ []) (3 at 20
 unfolding open-schedule open-outcomes plan nothing
 reports-follow = refl
 
--- a success writes the events' places and nothing else; a chain goes to the front of its slices
+-- slices of nines
 lent : Lent
 lent = record { times = replicate 18 9; chain-bounds = replicate 5 9; chain-directions = replicate 3 9 }
 
-written-follows : times-written (record { times = 258 ∷ 1 ∷ []; passes = 1 }) lent
-    ∷ chain-written (record { number = 10_002; direction = onward } ∷ record { number = 1; direction = back } ∷ []) lent
-    ∷ []
-    ≡ record { times = 2 ∷ 1 ∷ 0 ∷ 0 ∷ 0 ∷ 0 ∷ 0 ∷ 0 ∷ 1 ∷ 0 ∷ 0 ∷ 0 ∷ 0 ∷ 0 ∷ 0 ∷ 0 ∷ 9 ∷ 9 ∷ []; chain-bounds = replicate 5 9; chain-directions = replicate 3 9 }
-    ∷ record { times = replicate 18 9; chain-bounds = 18 ∷ 39 ∷ 1 ∷ 0 ∷ 9 ∷ []; chain-directions = 0 ∷ 1 ∷ 9 ∷ [] }
-    ∷ []
-unfolding open-words open-schedule open-outcomes lent
-written-follows = refl
-
--- "14: a lent slice shorter than the limits above need": each slice at its need, and one place short of it
-slices : ℕ → ℕ → ℕ → Lent
-slices t b d = record { times = replicate t 9; chain-bounds = replicate b 9; chain-directions = replicate d 9 }
-
-needs-follow : map long-enough (slices 32_768 8192 4096 ∷ slices 32_767 8192 4096 ∷ slices 32_768 8191 4096 ∷ slices 32_768 8192 4095 ∷ [])
-    ≡ true ∷ false ∷ false ∷ false ∷ []
-unfolding open-outcomes slices
-needs-follow = refl
-
+-- "14: a lent slice shorter than the limits above need": a plan slice at its need, and one place short of it
 plan-need-follows : load nothing (replicate 233_471 9) .answer ∷ load nothing (replicate 233_472 9) .answer ∷ []
     ≡ Loaded.TooShort ∷ Loaded.Refused (record { reason = Layout; table = Roads; row = 0 }) ∷ []
 unfolding open-schedule open-outcomes nothing

@@ -2,10 +2,10 @@
 use Prim.Native.Nat.{ℕ, suc, _+_, _-_, _≤_, _<_}
 use native.Mathlib.Numerals.{add-one}
 use native.Mathlib.Omega.{arith}
-use mathlib.Core.Path.{_≡_, refl, ap, ap₂, sym, _∙_}
+use mathlib.Core.Path.{_≡_, ap, ap₂, sym, _∙_}
 use mathlib.Core.List.{List, [], _∷_, _++_, append-assoc, append-nil}
 use lib.ListN.{length, take, drop, getD, set, replicate, length-append, length-drop, replicate-append-replicate, drop-of-length-le}
-use lib.Seq.{take-at, drop-at, take-suc, drop-cons, take-length, length-take-le}
+use lib.Seq.{set-at, take-at, drop-at, take-suc, drop-cons, take-length, length-take-le}
 use borrow.Rule.Slice.PartMut.{midOf, putMid}
 use Rattle.csv.proofs.Reading.{rest-is}
 use Rattle.words.specs.Words.{words, written, padded}
@@ -15,19 +15,13 @@ use Rattle.slice.specs.PlanSlice.{plan-slice}
 
 -- ---- a byte more
 
--- the place behind what was written
-seam : (a d : List ℕ) (v w : ℕ) → set (a ++ (w ∷ d)) (length a) v ≡ a ++ (v ∷ d)
-seam [] d v w = refl
-seam (x ∷ a) d v w = ap (λ (l : List ℕ). x ∷ l) (seam a d v w)
-
 -- one byte more written over the front
 pub front-more : (b s : List ℕ) (i : ℕ) → i < length b → length b ≤ length s
     → set (take i b ++ drop i s) i (getD b i 0) ≡ take (i + 1) b ++ drop (i + 1) s
 front-more b s i h f =
     let l : length (take i b) ≡ i = length-take-le i b (omega arith) in
     ap (λ (x : List ℕ). set (take i b ++ x) i (getD b i 0)) (drop-cons s i 0 (omega arith))
-    ∙ ap (λ (k : ℕ). set (take i b ++ (getD s i 0 ∷ drop (suc i) s)) k (getD b i 0)) (sym l)
-    ∙ seam (take i b) (drop (suc i) s) (getD b i 0) (getD s i 0)
+    ∙ set-at (take i b) (getD s i 0) (drop (suc i) s) (getD b i 0) i l
     ∙ sym (append-assoc (take i b) (getD b i 0 ∷ []) (drop (suc i) s))
     ∙ ap (λ (x : List ℕ). x ++ drop (suc i) s) (sym (take-suc b i 0 h))
     ∙ ap (λ (k : ℕ). take k b ++ drop k s) (sym (add-one i))

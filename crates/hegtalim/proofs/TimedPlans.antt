@@ -15,14 +15,14 @@ use Rattle.network.specs.Events.{event-count}
 use Rattle.network.specs.Bounds.{bounds}
 use Rattle.network.specs.BoundArrays.{bound-ends, bound-range}
 use Rattle.schedule.specs.Added.{all-bounds}
-use Rattle.schedule.specs.Lent.{Lent}
+use Rattle.schedule.specs.Lent.{Lent, long-enough}
 use Rattle.slice.specs.PlanSlice.{plan-need, Held, held}
 use Rattle.passes.specs.declared.Solved.{Solved}
 use Rattle.passes.specs.Solving.{Solving}
 use Rattle.timing.specs.declared.Bounding.{Bounding}
 use Rattle.timing.specs.Bounding.{bounding-fits, bounding, held-bounds, bounding-answer, bounding-written}
 use Rattle.hegtalim.specs.declared.Timed.{Timed}
-use Rattle.hegtalim.specs.Outcomes.{long-enough, meets-needs, Timetabled, too-short, no-plan}
+use Rattle.hegtalim.specs.Outcomes.{meets-needs, Timetabled, too-short, no-plan}
 use Rattle.hegtalim.proofs.Timing.{Tells, solving-is, solving-some}
 
 -- ---- lengths

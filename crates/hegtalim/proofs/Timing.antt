@@ -25,17 +25,17 @@ use Rattle.schedule.specs.Book.{Book}
 use Rattle.schedule.specs.Added.{added-bounds, all-bounds, numbered-bounds}
 use Rattle.schedule.specs.Timetable.{arcs, timetable}
 use Rattle.schedule.specs.Chain.{Direction, Item, Leg, leg, legs, closed-below-0, is-chain}
-use Rattle.schedule.specs.Lent.{Lent, times-written, chain-written}
+use Rattle.schedule.specs.Lent.{Lent, long-enough, times-written, chain-written}
 use Rattle.schedule.proofs.Logged.{Logged, logged-kept, some-event, bound-ends as ends-below, bound-most}
 use Rattle.schedule.proofs.Numbers.{Leads, added-few, added-number, own-place}
 use Rattle.schedule.proofs.Legs.{legs-cons}
 use Rattle.slice.specs.PlanSlice.{plan-need, Held, held}
 use Rattle.slice.proofs.Slice.{held-says}
 use Rattle.passes.specs.declared.Solved.{Solved}
-use Rattle.passes.specs.Solving.{bounds-fit, lent-fit, network-fits, times-of, Pick, leg-at, no-bound, picked-legs, number-of, picked, Solves, timed, cycle, Solving, unfit, solved}
+use Rattle.passes.specs.Solving.{bounds-fit, network-fits, times-of, Pick, leg-at, no-bound, picked-legs, number-of, picked, Solves, timed, cycle, Solving, unfit, solved}
 use Rattle.passes.proofs.Fitting.{Fitting, fitting-passes}
 use Rattle.hegtalim.specs.declared.Timed.{Timed}
-use Rattle.hegtalim.specs.Outcomes.{long-enough, meets-needs, Timetabled, no-times}
+use Rattle.hegtalim.specs.Outcomes.{meets-needs, Timetabled, no-times}
 use Rattle.hegtalim.specs.Outcomes as outcomes
 
 -- what is written over a front is no longer than the whole
@@ -200,11 +200,9 @@ module _ (s : List ℕ) (h : Held) (e : held s ≡ some h) (lent : Lent) (met : 
       (no-times met h e q items chain)
 
   -- the three slices lent have room
-  lent-there : lent-fit lent ≡ true
-  unfolding meets-needs long-enough lent-fit
-  lent-there =
-      let (_, own-slices) = and-yes (leb plan-need (length s)) (leb 32_768 (length (lent .times)) && leb 8192 (length (lent .chain-bounds)) && leb 4096 (length (lent .chain-directions))) (subst T (sym met) tt) in
-      passes (leb 32_768 (length (lent .times)) && leb 8192 (length (lent .chain-bounds)) && leb 4096 (length (lent .chain-directions))) own-slices
+  lent-there : long-enough lent ≡ true
+  unfolding meets-needs
+  lent-there = passes (long-enough lent) (and-yes (leb plan-need (length s)) (long-enough lent) (subst T (sym met) tt) .1)
 
   -- what is found of the arrays to which they were written
   module _ (n own m : ℕ) (qn : n ≡ event-count (h .plan)) (qo : own ≡ its-own) (qm : m ≡ length all) (ends ranges : List ℕ)
@@ -213,8 +211,8 @@ module _ (s : List ℕ) (h : Held) (e : held s ≡ some h) (lent : Lent) (met : 
     of-bounds : (a : Solved) (lent′ : Lent) → Solving its-own (length all) (event-count (h .plan)) ends ranges lent a lent′
         → Solves its-own (event-count (h .plan)) all lent a lent′
     of-bounds a lent′ (unfit q) =
-        let fits : (network-fits (length all) (event-count (h .plan)) ends ranges && lent-fit lent) ≡ true =
-        ap (λ (x : Bool). x && lent-fit lent) (network-there (h .plan) (h .book) logged ends ranges qe qr) ∙ lent-there in
+        let fits : (network-fits (length all) (event-count (h .plan)) ends ranges && long-enough lent) ≡ true =
+        ap (λ (x : Bool). x && long-enough lent) (network-there (h .plan) (h .book) logged ends ranges qe qr) ∙ lent-there in
         absurd (true≢false (sym fits ∙ q))
     of-bounds a lent′ (solved q x y w) =
         subst (λ (cs : List Bound). Solves its-own (event-count (h .plan)) cs lent x y) (bounds-there (h .plan) (h .book) logged ends ranges qe qr) w

@@ -25,8 +25,8 @@ use Rattle.hegtalim.specs.declared.Loaded.{Loaded}
 use Rattle.hegtalim.specs.declared.Reported.{Reported}
 use Rattle.hegtalim.specs.declared.Timed.{Timed}
 use Rattle.slice.specs.PlanSlice.{Held, held}
-use Rattle.schedule.specs.Lent.{Lent}
-use Rattle.hegtalim.specs.Outcomes.{load, book-answer, report, long-enough, Timetabled}
+use Rattle.schedule.specs.Lent.{Lent, long-enough}
+use Rattle.hegtalim.specs.Outcomes.{load, book-answer, report, Timetabled}
 
 -- ---- the list of calls
 

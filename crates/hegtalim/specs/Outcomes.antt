@@ -1,6 +1,6 @@
 -- What each call answers and leaves in the slices lent to it, on all input (document 01, "Turned down because of the input" and "… of the state").
 -- Assumes nothing.
-use Prim.Native.Nat.{ℕ, _*_}
+use Prim.Native.Nat.{ℕ}
 use mathlib.Core.Path.{_≡_}
 use mathlib.Core.Bool.{Bool, true, false, _&&_, cond}
 use mathlib.Core.List.{List, [], _∷_, _++_}
@@ -14,7 +14,7 @@ use Rattle.network.specs.Judge.{judge}
 use Rattle.schedule.specs.Book.{Report, Book, has-next, in-time, acceptable}
 use Rattle.schedule.specs.Timetable.{Timetable, timetable}
 use Rattle.schedule.specs.Chain.{Item, is-chain}
-use Rattle.schedule.specs.Lent.{Lent, times-written, chain-written}
+use Rattle.schedule.specs.Lent.{Lent, long-enough, times-written, chain-written}
 use Rattle.hegtalim.specs.declared.Loaded.{Loaded}
 use Rattle.hegtalim.specs.declared.Reported.{Reported}
 use Rattle.hegtalim.specs.declared.Timed.{Timed}
@@ -71,25 +71,7 @@ report s r =
 
 -- ---- timetable
 
--- "docs/ lists each need": a times slice's is 8 an event
-abbrev pub times-need : ℕ
-times-need = 8 * 4096
-
--- "chain slices: the event limit": 2 an item for the bounds' numbers
-abbrev pub chain-bounds-need : ℕ
-chain-bounds-need = 2 * 4096
-
--- and 1 an item for the directions
-abbrev pub chain-directions-need : ℕ
-chain-directions-need = 4096
-
--- its own slices meet their needs
-unfoldable pub long-enough : Lent → Bool
-long-enough l =
-    leb times-need (length (l .times)) && leb chain-bounds-need (length (l .chain-bounds))
-    && leb chain-directions-need (length (l .chain-directions))
-
--- and so does the plan slice
+-- the plan slice and its own slices meet their needs
 unfoldable pub meets-needs : List ℕ → Lent → Bool
 meets-needs s l = leb plan-need (length s) && long-enough l
 
@@ -114,5 +96,5 @@ pub record TimetabledNumber (s : List ℕ) (l : Lent) (number : ℕ) (l′ : Len
 
 -- Names every definition of this module, for a proof that computes with them all.
 unfoldable pub open-outcomes : Unit {0}
-unfolding load-judged load book-answer report-held report long-enough meets-needs
+unfolding load-judged load book-answer report-held report meets-needs
 open-outcomes = tt

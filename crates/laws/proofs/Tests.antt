@@ -1,9 +1,9 @@
 -- Tests that pass or fail, as equations. Assumes nothing.
 use Prim.Native.Nat.{ℕ, _≤_, _<_}
-use mathlib.Core.Path.{_≡_, refl, ap, _∙_, subst}
-use mathlib.Core.Logic.{_⊎_, inl, inr, _≢_}
+use mathlib.Core.Path.{_≡_, refl}
+use mathlib.Core.Logic.{_⊎_, inl, inr}
 use mathlib.Core.Bool.{Bool, true, false, _||_}
-use lib.Dec.{T, eqb, ltb, eqb→eq, eqb-refl, ltb→lt, nltb→le}
+use lib.Dec.{T, ltb, ltb→lt, nltb→le}
 
 -- a test that passes
 pub passes : (b : Bool) → T b → b ≡ true
@@ -14,17 +14,6 @@ passes false t = absurd t
 pub fails : (b : Bool) → ¬ T b → b ≡ false
 fails true h = absurd (h tt)
 fails false h = refl
-
--- of two numbers, whether they are equal
-pub equal-passes : (m n : ℕ) → m ≡ n → eqb m n ≡ true
-equal-passes m n e = passes (eqb m n) (subst (λ (x : ℕ). T (eqb m x)) e (eqb-refl m))
-
-pub unequal-fails : (m n : ℕ) → m ≢ n → eqb m n ≡ false
-unequal-fails m n h = fails (eqb m n) (λ t. h (eqb→eq m n t))
-
--- a test that fails tells them apart
-pub tells-apart : (m n : ℕ) → eqb m n ≡ false → m ≢ n
-tells-apart m n e q = subst T (ap (eqb m) q ∙ e) (eqb-refl m)
 
 -- one of two tests is enough
 pub yes-or : (a b : Bool) → T a ⊎ T b → T (a || b)

@@ -5,7 +5,7 @@ use native.Mathlib.Omega.{arith}
 use mathlib.Core.Path.{_≡_, refl, ap, sym, _∙_}
 use mathlib.Core.Bool.{Bool, true, false, true≢false, not, _&&_, cond}
 use mathlib.Core.List.{List, [], _∷_, _++_, map}
-use borrow.Author.Tests.{le-leb, lt-leb}
+use borrow.Author.Tests.{le-leb, lt-leb, not-true}
 use lib.Dec.{leb}
 use lib.ListN.{length, take, drop, set, length-drop}
 use lib.Seq.{sets, length-take-le}
@@ -21,7 +21,7 @@ use Rattle.limits.specs.Counts.{total, moves}
 use Rattle.limits.proofs.RowBounds.{of-paths-carts}
 use Rattle.limits.proofs.Counts.{path-points, events-are}
 use Rattle.limits.proofs.CountSteps.{paths-cons, paths-none}
-use Rattle.limits.proofs.LimitSteps.{path-events, all-events, failed}
+use Rattle.limits.proofs.LimitSteps.{path-events, all-events}
 
 -- the first event of each path, the first numbered e, and the number behind the last path's
 abbrev pub firsts-from : ℕ → List (List ℕ) → List ℕ
@@ -119,7 +119,7 @@ module _ (n w : ℕ) (s fs : List ℕ) where
   pub firsts-missing : (b : Bool) → b ≡ (leb n 64 && leb w 1024 && leb (n * w) (length s)) → not b ≡ true → Left false fs
   unfolding events-fit
   firsts-missing b q e =
-      none-fit (by (leb n 64) (leb 1 w) (leb w 1024) (leb (n * w) (length s)) (leb (event-count (of-paths (paths-in n w s))) 4096) (leb (suc n) (length fs)) (sym q ∙ failed b e))
+      none-fit (by (leb n 64) (leb 1 w) (leb w 1024) (leb (n * w) (length s)) (leb (event-count (of-paths (paths-in n w s))) 4096) (leb (suc n) (length fs)) (sym q ∙ not-true b e))
     where
       by : (a x c d y z : Bool) → (a && c && d) ≡ false → (a && x && c && d && y && z) ≡ false
       by false x c d y z h = refl

@@ -9,7 +9,7 @@ use lib.Dec.{T, leb, leb→le}
 use mir.Facts.{and-yes}
 use lib.ListN.{length, take, drop, length-drop}
 use lib.Seq.{length-take-le}
-use borrow.Author.Tests.{le-leb, lt-leb}
+use borrow.Author.Tests.{not-true, not-false, le-leb, lt-leb}
 use Rattle.tables.proofs.PathRecords.{paths-in-length}
 use Rattle.tables.specs.Arrays.{paths-in}
 use Rattle.network.specs.Events.{visits-of, points}
@@ -59,21 +59,11 @@ empty-orders n s = ap orders-among (empty-stops n 1 s)
 
 -- ---- the tests
 
--- a test that fails
-pub failed : (b : Bool) → not b ≡ true → b ≡ false
-failed true e = sym e
-failed false e = refl
-
--- one that does not
-pub passed : (b : Bool) → not b ≡ false → b ≡ true
-passed true e = refl
-passed false e = sym e
-
 -- few enough carts and steps, and all cells there
 pub there-says : (n w : ℕ) (s : List ℕ) (b : Bool) → b ≡ (leb n 64 && leb w 1024 && leb (n * w) (length s)) → not b ≡ false
     → (n ≤ 64) × (w ≤ 1024) × (n * w ≤ length s)
 there-says n w s b q e =
-    let (more, cells) = and-yes (leb n 64 && leb w 1024) (leb (n * w) (length s)) (subst T (sym (passed b e) ∙ q) tt) in
+    let (more, cells) = and-yes (leb n 64 && leb w 1024) (leb (n * w) (length s)) (subst T (sym (not-false b e) ∙ q) tt) in
     let (carts, steps) = and-yes (leb n 64) (leb w 1024) more in
     (leb→le n 64 carts, leb→le w 1024 steps, leb→le (n * w) (length s) cells)
 
@@ -81,7 +71,7 @@ module _ (n w : ℕ) (s : List ℕ) where
   -- too many carts or steps, or not all cells there
   pub not-there : (b : Bool) → b ≡ (leb n 64 && leb w 1024 && leb (n * w) (length s)) → not b ≡ true → false ≡ paths-within n w s
   unfolding paths-within
-  not-there b q e = ap (λ (t : Bool). t && limits-kept (of-paths (paths-in n w s))) (sym (failed b e) ∙ q)
+  not-there b q e = ap (λ (t : Bool). t && limits-kept (of-paths (paths-in n w s))) (sym (not-true b e) ∙ q)
 
   -- else the limits of events and bounds are asked
   all-there : n ≤ 64 → w ≤ 1024 → n * w ≤ length s → limits-kept (of-paths (paths-in n w s)) ≡ paths-within n w s

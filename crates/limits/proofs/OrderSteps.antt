@@ -8,7 +8,7 @@ use lib.Dec.{T, leb, leb→le}
 use mir.Facts.{and-yes}
 use lib.ListN.{length, length-append}
 use lib.Seq.{sets, length-sets}
-use borrow.Author.Tests.{le-leb, lt-leb}
+use borrow.Author.Tests.{le-leb, lt-leb, not-false, not-true}
 use Rattle.laws.proofs.Tests.{passes}
 use Rattle.words.specs.Words.{written}
 use Rattle.tables.specs.Arrays.{paths-in}
@@ -20,7 +20,7 @@ use Rattle.limits.specs.Limits.{of-paths, limits-kept, paths-within}
 use Rattle.limits.specs.Orders.{orders-fitting}
 use Rattle.limits.specs.Counts.{total, moves, stops, orders-among}
 use Rattle.limits.proofs.RowBounds.{of-paths-carts, order-count-is}
-use Rattle.limits.proofs.LimitSteps.{failed, passed, there-says}
+use Rattle.limits.proofs.LimitSteps.{there-says}
 use Rattle.limits.proofs.Firsts.{events-counted}
 
 -- ---- some written, others to come
@@ -118,7 +118,7 @@ unfolding paths-within limits-kept
 within-says n w s b q e o =
     let ps : List (List ℕ) = paths-in n w s in
     let there : Bool = leb n 64 && leb w 1024 && leb (n * w) (length s) in
-    let (all, kept) = and-yes there (limits-kept (of-paths ps)) (subst T (sym (passed b e) ∙ q) tt) in
+    let (all, kept) = and-yes there (limits-kept (of-paths ps)) (subst T (sym (not-false b e) ∙ q) tt) in
     let (few, short, cells) = there-says n w s there refl (ap not (passes there all)) in
     let (events, _) = and-yes (leb (event-count (of-paths ps)) 4096) (leb (length (bounds (of-paths ps))) 8192) kept in
     let count : event-count (of-paths ps) ≤ 4096 = leb→le (event-count (of-paths ps)) 4096 events in
@@ -150,7 +150,7 @@ module _ (n w : ℕ) (s ends ranges : List ℕ) where
 
   -- limits not kept
   pub orders-over : 1 ≤ w → (b : Bool) → b ≡ paths-within n w s → not b ≡ true → Left 0 ends ranges
-  orders-over o b q e = none-fit (simp (le-leb 1 w o, sym q ∙ failed b e))
+  orders-over o b q e = none-fit (simp (le-leb 1 w o, sym q ∙ not-true b e))
 
   module _ (o : 1 ≤ w) (b : Bool) (p : b ≡ paths-within n w s) (e : not b ≡ false) (m : ℕ) (q : m ≡ orders-among (stops 1 (paths-in n w s))) where
     -- as many as are counted
@@ -160,7 +160,7 @@ module _ (n w : ℕ) (s ends ranges : List ℕ) where
 
     -- the limits are kept
     kept : paths-within n w s ≡ true
-    kept = sym p ∙ passed b e
+    kept = sym p ∙ not-false b e
 
     -- no room for their ends
     pub orders-ends : length ends < 2 * m → Left 0 ends ranges

@@ -8,7 +8,7 @@ use mathlib.Core.List.{List, [], _∷_, _++_, map, flatMap, append-assoc}
 use mathlib.Core.Option.{Option, none, some}
 use lib.Dec.{ltb, eqb}
 use lib.ListN.{length, getD, length-append, length-map}
-use Rattle.laws.proofs.Tests.{unequal-fails, equal-passes}
+use borrow.Author.Tests.{eq-eqb, ne-eqb}
 use Rattle.laws.proofs.Rising.{Rises, Rising, rises-first}
 use Rattle.floor.specs.Plan.{Cart, Plan}
 use Rattle.network.specs.Events.{Visit, visits-of, approach, leave, point, same-kind, find-point, points-after, points, Route, routes, routes-of, route-points, event-of}
@@ -31,7 +31,7 @@ no-leave-after x (y ∷ ys) e zero d h l = absurd (omega arith)
 no-leave-after x (y ∷ ys) e (suc i) d h l =
     let t : ℕ = getD (y ∷ ys) i d .step in
     let above : x .step < t = rises-first step-of x (y ∷ ys) i d h (omega arith) in
-    let other : eqb t (x .step) ≡ false = unequal-fails t (x .step) (λ q. omega arith) in
+    let other : eqb t (x .step) ≡ false = ne-eqb t (x .step) (λ q. omega arith) in
     ap (λ (b : Bool). cond b (some e) (find-point leave t (suc (suc (suc e))) (points-after y ys))) other
     ∙ no-leave-after y ys (suc (suc (suc e))) i d (h .1) (omega arith)
 
@@ -59,7 +59,7 @@ entered-cart n e [] rest h = let same : e ≡ e + 0 = omega arith in ap (λ (m :
 entered-cart n e (x ∷ []) rest h = ap (λ (b : Bool). record { visit = stop n x; event = e } ∷ entered (e + cond b 3 1) rest) (h x)
 entered-cart n e (x ∷ (y ∷ ys)) rest h =
     let later : e + 3 + length (points (y ∷ ys)) ≡ e + length (points (x ∷ (y ∷ ys))) = omega arith in
-    ap (λ (b : Bool). record { visit = stop n x; event = e } ∷ entered (e + cond b 3 1) (map (stop n) (y ∷ ys) ++ rest)) (equal-passes n n refl)
+    ap (λ (b : Bool). record { visit = stop n x; event = e } ∷ entered (e + cond b 3 1) (map (stop n) (y ∷ ys) ++ rest)) (eq-eqb n n refl)
     ∙ ap (λ (r : List Entry). record { visit = stop n x; event = e } ∷ r) (entered-cart n (e + 3) (y ∷ ys) rest h)
     ∙ ap (λ (m : ℕ). record { visit = stop n x; event = e } ∷ (cart-row n (e + 3) (y ∷ ys) ++ entered m rest)) later
 
@@ -68,7 +68,7 @@ goes-no-further : (v : Stop) (n : ℕ) (ps : List (List ℕ)) → v .cart < n �
 unfolding not-last stops visits-of stop
 goes-no-further v n [] l = refl
 goes-no-further v n ([] ∷ ps) l = goes-no-further v (suc n) ps (omega arith)
-goes-no-further v n ((c ∷ cs) ∷ ps) l = unequal-fails (v .cart) n (λ q. omega arith)
+goes-no-further v n ((c ∷ cs) ∷ ps) l = ne-eqb (v .cart) n (λ q. omega arith)
 
 -- so the visits of the first of some carts
 pub entered-path : (n e : ℕ) (p : List ℕ) (ps : List (List ℕ))
@@ -95,7 +95,7 @@ pass-counted : (v : Entry) (n e : ℕ) (vs : List Visit) (rest : List Entry) →
 unfolding later-bounds counts stop
 pass-counted v n e [] rest = refl
 pass-counted v n e (x ∷ xs) rest =
-    by (eqb (v .visit .cart) n) (equal-passes n n refl) (ltb (v .visit .step) (x .step) && eqb (v .visit .cell) (x .cell)) ∙ pass-counted v n (e + 3) xs rest
+    by (eqb (v .visit .cart) n) (eq-eqb n n refl) (ltb (v .visit .step) (x .step) && eqb (v .visit .cell) (x .cell)) ∙ pass-counted v n (e + 3) xs rest
   where
     more : List Bound
     more = later-bounds v n (cart-row n (e + 3) xs ++ rest)
@@ -237,7 +237,7 @@ others-row (c ∷ cs) (p ∷ ps) n e j x u k h l q =
     by false s rest =
         ap (λ (r : List Bound). r ++ others) (bound-found j x (u + 1) n c p e q)
         ∙ at (first-entry x e (visits-of p)) rest
-        ∙ sym (pass-other (j .number) u x k n e (visits-of p) after s (unequal-fails k n (λ r. omega arith)))
+        ∙ sym (pass-other (j .number) u x k n e (visits-of p) after s (ne-eqb k n (λ r. omega arith)))
 
 -- a visit without a leave point has none
 no-bounds : (j : Route) (x : Visit) (rs : List Route) → event-of leave j x ≡ none → flatMap (order-bounds-to j x) rs ≡ []
@@ -272,7 +272,7 @@ cart-bounds all n e (x ∷ (y ∷ ys)) rest g d goes ends last =
     ∙ ap (λ (r : List Bound). r ++ (flatMap g (y ∷ ys) ++ row-from all rest)) (goes 0 (omega arith) ∙ ap (λ (a : ℕ). later-bounds (v a) 0 all) first)
     ∙ ap (λ (r : List Bound). later-bounds (v e) 0 all ++ r)
     (cart-bounds all n (e + 3) (y ∷ ys) rest g d (λ i l. goes (suc i) (omega arith) ∙ next i) (λ i l. ends (suc i) (omega arith)) last)
-    ∙ ap (λ (b : Bool). cond b (later-bounds (v e) 0 all) [] ++ row-from all (cart-row n (e + 3) (y ∷ ys) ++ rest)) (sym (equal-passes n n refl))
+    ∙ ap (λ (b : Bool). cond b (later-bounds (v e) 0 all) [] ++ row-from all (cart-row n (e + 3) (y ∷ ys) ++ rest)) (sym (eq-eqb n n refl))
   where
     next : (i : ℕ) → later-bounds (record { visit = stop n (getD (y ∷ ys) i d); event = e + 3 * suc i }) 0 all
         ≡ later-bounds (record { visit = stop n (getD (y ∷ ys) i d); event = e + 3 + 3 * i }) 0 all

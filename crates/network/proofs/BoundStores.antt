@@ -5,7 +5,7 @@ use native.Mathlib.Numerals.{add-one}
 use native.Mathlib.Omega.{arith}
 use mathlib.Core.Path.{_≡_, refl, ap, sym, _∙_}
 use mathlib.Core.Logic.{_⊎_, inl, inr}
-use mathlib.Core.Bool.{Bool, true, false, _&&_, cond}
+use mathlib.Core.Bool.{Bool, true, false, _&&_, cond, and-false}
 use mathlib.Core.List.{List, [], _∷_, _++_, flatMap, append-assoc, append-nil}
 use lib.ListN.{length, drop, set, length-append}
 use lib.Dec.{leb, lit<}
@@ -92,11 +92,7 @@ no-room a b k (inl h) =
     ap (λ (t : Bool). t && leb (2 * k + 2) b) (lt-leb (2 * k + 2) a (omega arith))
 no-room a b k (inr h) =
     let m : b < suc k * 2 = div-lt-iff-lt-mul {k = 2} {x = b} {y = suc k} (lit< tt) .0 (omega arith) in
-    ap (λ (t : Bool). leb (2 * k + 2) a && t) (lt-leb (2 * k + 2) b (omega arith)) ∙ and-no (leb (2 * k + 2) a)
-  where
-    and-no : (t : Bool) → (t && false) ≡ false
-    and-no true = refl
-    and-no false = refl
+    ap (λ (t : Bool). leb (2 * k + 2) a && t) (lt-leb (2 * k + 2) b (omega arith)) ∙ and-false (leb (2 * k + 2) a)
 
 -- what is put where there is a place
 pub pair-put : (t : Bool) (s l : List ℕ) (k a b : ℕ) → t ≡ true → l ≡ set (set s (2 * k) a) (2 * k + 1) b → l ≡ with-pair t s k (a ∷ b ∷ [])

@@ -7,10 +7,10 @@ use mathlib.Core.List.{List, [], _∷_, flatMap, List·Memᴰ, List·Memᴰ·hea
 use mathlib.Core.Option.{Option, none, some, Option·none-ne-some, Option·some-injective}
 use lib.Dec.{T, ltb, eqb, eqb→eq, ltb→lt}
 use mir.Facts.{and-yes}
+use borrow.Author.Tests.{eqb-false}
 use Rattle.floor.specs.Plan.{Road, Plan}
 use Rattle.network.specs.Events.{Visit, approach, leave, Route, routes-of, event-of, last-event, finish-event}
 use Rattle.network.specs.Bounds.{Bound, no-earlier, start-bounds, route-parts, part-bounds, travel-bounds, first-later, between, order-bound, order-bounds-to, order-bounds, finish-bounds, bounds}
-use Rattle.laws.proofs.Tests.{tells-apart}
 use Rattle.laws.proofs.Members.{to-flat, of-flat}
 
 -- a start bound
@@ -108,7 +108,7 @@ order-to-is rs j k x b mj mk mx m = by (eqb (j .number) (k .number)) refl m
   where
     by : (t : Bool) → eqb (j .number) (k .number) ≡ t → List·Memᴰ b (cond t [] (order-bound j x k (first-later x (k .visits)))) → Order rs b
     by true e m = absurd (List·Memᴰ·not-nil m)
-    by false e m = order-is rs j k x b mj mk mx (tells-apart (j .number) (k .number) e) (first-later x (k .visits)) refl m
+    by false e m = order-is rs j k x b mj mk mx (eqb-false (j .number) (k .number) e) (first-later x (k .visits)) refl m
 
 -- every order bound is one from some j, x and k
 pub orders-are : (rs : List Route) (b : Bound) → List·Memᴰ b (order-bounds rs) → Order rs b

@@ -7,12 +7,12 @@ use mathlib.Core.Bool.{Bool, true, false, cond}
 use mathlib.Core.List.{List, [], _∷_, List·Memᴰ, List·Memᴰ·head, List·Memᴰ·tail, List·Memᴰ·not-nil, List·Memᴰ·cases-cons}
 use lib.Dec.{T, eqb, eqb→eq}
 use lib.ListN.{length, getD}
+use borrow.Author.Tests.{eqb-false}
 use Rattle.floor.specs.Plan.{Plan}
 use Rattle.floor.specs.Paths.{at-step, steps}
 use Rattle.floor.proofs.Accepted.{Sound}
 use Rattle.network.specs.Events.{Visit, visits-after, visits-of, Route, routes-of}
 use Rattle.laws.proofs.Rising.{Rises, Rising}
-use Rattle.laws.proofs.Tests.{tells-apart}
 use Rattle.network.proofs.Routes.{Origin, origin, path-there}
 
 -- ---- the visits of a path
@@ -52,7 +52,7 @@ visits-after-change (d ∷ ds) c t x e = by (eqb c d) refl (λ v h. visits-after
     by : (b : Bool) → eqb c d ≡ b → ((v : Visit) → v .cell ≡ d → Changes v (visits-after d (suc t) ds))
         → Changes x (cond b (visits-after d (suc t) ds) (record { step = t; cell = d } ∷ visits-after d (suc t) ds))
     by true q rest = rest x (e ∙ eqb→eq c d (subst T (sym q) tt))
-    by false q rest = (λ r. tells-apart c d q (sym e ∙ r), rest (record { step = t; cell = d }) refl)
+    by false q rest = (λ r. eqb-false c d q (sym e ∙ r), rest (record { step = t; cell = d }) refl)
 
 -- of two successive places
 changes-at : (x : Visit) (xs : List Visit) (i : ℕ) (d : Visit) → Changes x xs → i < length xs → getD (x ∷ xs) i d .cell ≢ getD xs i d .cell

@@ -5,7 +5,7 @@ use mathlib.Core.Path.{_≡_, refl, ap, sym, _∙_, subst}
 use mathlib.Core.Bool.{Bool, true, false, _&&_}
 use mathlib.Core.List.{List, _∷_, map, flatMap}
 use mathlib.Core.Option.{Option, none, some}
-use lib.Dec.{T, leb, leb→le, le→leb}
+use lib.Dec.{T}
 use lib.IntN.{ℤ, pos}
 use lib.ListN.{length, take, set, replicate, length-set, length-replicate}
 use lib.Seq.{length-take-le}
@@ -16,10 +16,11 @@ use Rattle.network.specs.Bounds.{Bound}
 use Rattle.walks.specs.Passes.{Sums, at-start, same-number, settled}
 use Rattle.walks.specs.Parents.{Trapped}
 use Rattle.schedule.specs.Timetable.{time, ways, timetable-of}
-use Rattle.schedule.specs.Lent.{Lent, times-written, chain-written}
+use Rattle.schedule.specs.Lent.{Lent, long-enough, times-written, chain-written}
+use Rattle.schedule.proofs.Lent.{Room, room, room-passes}
 use Rattle.passes.specs.declared.Run.{Run}
 use Rattle.passes.specs.declared.Solved.{Solved}
-use Rattle.passes.specs.Solving.{times-of, lent-fit, Solves, timed, cycle}
+use Rattle.passes.specs.Solving.{times-of, Solves, timed, cycle}
 use Rattle.passes.specs.Marks.{low, sum-at, sums-in, parents-in, Coded, Ran, settles, raises-on, ChainFound}
 use Rattle.passes.proofs.Marks.{low-none}
 
@@ -107,39 +108,14 @@ of-events {own} {n} {bs} {l} {l′} {r} m e s = subst (λ (i : ℕ). Solves own 
 
 -- ---- the slices lent
 
--- they have room
-pub record Room (l : Lent) : Type 0 where
-  pub times-long : 32_768 ≤ length (l .times)
-  pub bounds-long : 8192 ≤ length (l .chain-bounds)
-  pub directions-long : 4096 ≤ length (l .chain-directions)
-
--- as the test says
-room : (l : Lent) → T (lent-fit l) → Room l
-unfolding lent-fit
-room l t =
-    let a = and-yes (leb 32_768 (length (l .times)) && leb 8192 (length (l .chain-bounds))) (leb 4096 (length (l .chain-directions))) t in
-    let b = and-yes (leb 32_768 (length (l .times))) (leb 8192 (length (l .chain-bounds))) (a .0) in
-    record {
-      times-long = leb→le 32_768 (length (l .times)) (b .0);
-      bounds-long = leb→le 8192 (length (l .chain-bounds)) (b .1);
-      directions-long = leb→le 4096 (length (l .chain-directions)) (a .1);
-    }
-
-room-passes : (l : Lent) → Room l → T (lent-fit l)
-unfolding lent-fit
-room-passes l r =
-    yes-and (leb 32_768 (length (l .times)) && leb 8192 (length (l .chain-bounds))) (leb 4096 (length (l .chain-directions)))
-    (yes-and (leb 32_768 (length (l .times))) (leb 8192 (length (l .chain-bounds))) (le→leb 32_768 (length (l .times)) (r .times-long)) (le→leb 8192 (length (l .chain-bounds)) (r .bounds-long)))
-    (le→leb 4096 (length (l .chain-directions)) (r .directions-long))
-
 -- a network and room for what is found
-pub both-fit : (b : Bool) (l : Lent) → b ≡ true → Room l → (b && lent-fit l) ≡ true
-both-fit b l e r = passes (b && lent-fit l) (yes-and b (lent-fit l) (subst T (sym e) tt) (room-passes l r))
+pub both-fit : (b : Bool) (l : Lent) → b ≡ true → Room l → (b && long-enough l) ≡ true
+both-fit b l e r = passes (b && long-enough l) (yes-and b (long-enough l) (subst T (sym e) tt) (room-passes l r))
 
 -- no network
-pub no-network : (b : Bool) (l : Lent) → b ≡ false → (b && lent-fit l) ≡ false
-no-network b l e = fails (b && lent-fit l) (λ t. subst T e (and-yes b (lent-fit l) t .0))
+pub no-network : (b : Bool) (l : Lent) → b ≡ false → (b && long-enough l) ≡ false
+no-network b l e = fails (b && long-enough l) (λ t. subst T e (and-yes b (long-enough l) t .0))
 
 -- or no room
-pub no-room : (b : Bool) (l : Lent) → (Room l → ⊥) → (b && lent-fit l) ≡ false
-no-room b l h = fails (b && lent-fit l) (λ t. h (room l (and-yes b (lent-fit l) t .1)))
+pub no-room : (b : Bool) (l : Lent) → (Room l → ⊥) → (b && long-enough l) ≡ false
+no-room b l h = fails (b && long-enough l) (λ t. h (room l (and-yes b (long-enough l) t .1)))

@@ -12,7 +12,7 @@ use Rattle.network.specs.BoundArrays.{hi-number, bounds-in}
 use Rattle.walks.specs.Passes.{settled}
 use Rattle.schedule.specs.Timetable.{ways, Timetable, timetable-of}
 use Rattle.schedule.specs.Chain.{Direction, Item, Leg, leg, cost, closed-below-0}
-use Rattle.schedule.specs.Lent.{Lent, times-written, chain-written}
+use Rattle.schedule.specs.Lent.{Lent, long-enough, times-written, chain-written}
 use Rattle.passes.specs.declared.Solved.{Solved}
 
 -- a bound between two of n events, its lo and hi at most 10^12
@@ -24,10 +24,6 @@ bound-fits n b =
 unfoldable pub bounds-fit : ℕ → List Bound → Bool
 bounds-fit n [] = true
 bounds-fit n (b ∷ bs) = bound-fits n b && bounds-fit n bs
-
--- the slices have room for 4,096 events
-unfoldable pub lent-fit : Lent → Bool
-lent-fit l = leb 32_768 (length (l .times)) && leb 8192 (length (l .chain-bounds)) && leb 4096 (length (l .chain-directions))
 
 -- m bounds among n events in the front of two arrays, a network within the limits: "4,096 events", 8,192 bounds and one for each event
 unfoldable pub network-fits : ℕ → ℕ → List ℕ → List ℕ → Bool
@@ -79,11 +75,11 @@ pub data Solves (own n : ℕ) (bs : List Bound) (l : Lent) : Solved → Lent →
 
 -- the same, of arrays and slices: where they are no network, or short, nothing is written
 pub data Solving (own m n : ℕ) (ends ranges : List ℕ) (l : Lent) : Solved → Lent → Type 0 where
-  unfit : (network-fits m n ends ranges && lent-fit l) ≡ false → Solving own m n ends ranges l Solved.Unfit l
-  solved : (network-fits m n ends ranges && lent-fit l) ≡ true → (a : Solved) (l′ : Lent) → Solves own n (bounds-in m ends ranges) l a l′
+  unfit : (network-fits m n ends ranges && long-enough l) ≡ false → Solving own m n ends ranges l Solved.Unfit l
+  solved : (network-fits m n ends ranges && long-enough l) ≡ true → (a : Solved) (l′ : Lent) → Solves own n (bounds-in m ends ranges) l a l′
       → Solving own m n ends ranges l a l′
 
 -- Names every definition of this module, for a proof that computes with them all.
 unfoldable pub open-solving : Unit {0}
-unfolding bound-fits bounds-fit lent-fit network-fits times-of leg-at no-bound picked-legs number-of picked
+unfolding bound-fits bounds-fit network-fits times-of leg-at no-bound picked-legs number-of picked
 open-solving = tt

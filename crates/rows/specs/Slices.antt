@@ -9,8 +9,7 @@ use Rattle.floor.specs.Examples.{A-to-B}
 use Rattle.schedule.specs.Book.{Report, _at_, Book}
 use Rattle.schedule.specs.Timetable.{Timetable}
 use Rattle.slice.specs.PlanSlice.{plan-need, plan-slice, Held}
-use Rattle.hegtalim.specs.Outcomes.{times-need, chain-bounds-need, chain-directions-need}
-use Rattle.schedule.specs.Lent.{Lent}
+use Rattle.schedule.specs.Lent.{Lent, times-need, chain-bounds-need, chain-directions-need}
 
 -- the plan slice with this log
 unfoldable pub slice : List Report → List ℕ

@@ -9,3 +9,4 @@ pub mod Chains
 pub mod Logged
 pub mod Times
 pub mod ChainSizes
+pub mod Lent

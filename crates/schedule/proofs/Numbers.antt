@@ -6,7 +6,7 @@ use mathlib.Core.Logic.{⊎-elim}
 use mathlib.Core.Bool.{Bool, cond}
 use mathlib.Core.List.{List, [], _∷_, _++_, map, tail, List·Memᴰ, List·Memᴰ·head, List·Memᴰ·tail, List·Memᴰ·not-nil, List·Memᴰ·cases-cons, List·Memᴰ·append-cases, Memᴰ·map, Memᴰ·of-map}
 use lib.ListN.{length, getD, drop, length-map}
-use Rattle.laws.proofs.Tests.{equal-passes, unequal-fails}
+use borrow.Author.Tests.{eq-eqb, ne-eqb}
 use Rattle.laws.proofs.Rising.{Rises, rises-member}
 use Rattle.floor.specs.Plan.{Cart, Plan}
 use Rattle.network.specs.Events.{Route, points, visits-of, routes, routes-of, route-points, route-events, places}
@@ -21,12 +21,12 @@ use Rattle.schedule.proofs.Books.{Kept, AllKept, one-more, KeptBook}
 -- the first bound has the number
 found : (x : Numbered) (bs : List Numbered) (i : Item) → x .number ≡ i .number → leg-of (x ∷ bs) i ≡ leg (x .bound) (i .direction)
 unfolding leg-of
-found x bs i e = ap (λ (t : Bool). cond t (leg (x .bound) (i .direction)) (leg-of bs i)) (equal-passes (x .number) (i .number) e)
+found x bs i e = ap (λ (t : Bool). cond t (leg (x .bound) (i .direction)) (leg-of bs i)) (eq-eqb (x .number) (i .number) e)
 
 -- it has another
 passed-over : (x : Numbered) (bs : List Numbered) (i : Item) → ¬ (x .number ≡ i .number) → leg-of (x ∷ bs) i ≡ leg-of bs i
 unfolding leg-of
-passed-over x bs i h = ap (λ (t : Bool). cond t (leg (x .bound) (i .direction)) (leg-of bs i)) (unequal-fails (x .number) (i .number) h)
+passed-over x bs i h = ap (λ (t : Bool). cond t (leg (x .bound) (i .direction)) (leg-of bs i)) (ne-eqb (x .number) (i .number) h)
 
 -- ---- the plan's own bounds
 

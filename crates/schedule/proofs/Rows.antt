@@ -12,7 +12,7 @@ use Rattle.schedule.specs.Book.{Report, _at_, Book, first-book, has-next
 use Rattle.schedule.specs.Added.{Numbered, added-bounds, numbered-bounds}
 use Rattle.schedule.specs.Timetable.{timetable}
 use Rattle.schedule.specs.Chain.{Direction, onward, back, direction-number, Item, is-chain}
-use Rattle.schedule.specs.Lent.{Lent, times-written, chain-written}
+use Rattle.schedule.specs.Lent.{Lent, long-enough, times-written, chain-written}
 use Rattle.schedule.specs.Open.{open-schedule}
 
 -- "every road 1,000,000 long, margin 250,000"
@@ -148,3 +148,12 @@ written-follows : times-written (record { times = 5 ∷ 258 ∷ []; passes = 3 }
     ∷ []
 unfolding open-schedule open-words lent
 written-follows = refl
+
+-- "14: a lent slice shorter than the limits above need": each slice at its need, and one place short of it
+slices : ℕ → ℕ → ℕ → Lent
+slices t b d = record { times = replicate t 9; chain-bounds = replicate b 9; chain-directions = replicate d 9 }
+
+needs-follow : map long-enough (slices 32_768 8192 4096 ∷ slices 32_767 8192 4096 ∷ slices 32_768 8191 4096 ∷ slices 32_768 8192 4095 ∷ [])
+    ≡ true ∷ false ∷ false ∷ false ∷ []
+unfolding open-schedule slices
+needs-follow = refl

@@ -1,7 +1,10 @@
--- What a timetable writes to the slices lent to it (document 01, "Turned down because of the state").
+-- The slices lent to a timetable: what they need, and what it writes to them (document 01, "Turned down because of the input" and "… of the state").
 -- Assumes nothing.
-use Prim.Native.Nat.{ℕ}
+use Prim.Native.Nat.{ℕ, _*_}
+use mathlib.Core.Bool.{Bool, _&&_}
 use mathlib.Core.List.{List, map}
+use lib.Dec.{leb}
+use lib.ListN.{length}
 use Rattle.words.specs.Words.{words, written}
 use Rattle.schedule.specs.Timetable.{Timetable}
 use Rattle.schedule.specs.Chain.{Item, direction-number}
@@ -11,6 +14,24 @@ pub record Lent : Type 0 where
   pub times : List ℕ
   pub chain-bounds : List ℕ
   pub chain-directions : List ℕ
+
+-- "docs/ lists each need": a times slice's is 8 an event
+abbrev pub times-need : ℕ
+times-need = 8 * 4096
+
+-- "chain slices: the event limit": 2 an item for the bounds' numbers
+abbrev pub chain-bounds-need : ℕ
+chain-bounds-need = 2 * 4096
+
+-- and 1 an item for the directions
+abbrev pub chain-directions-need : ℕ
+chain-directions-need = 4096
+
+-- each meets its need
+unfoldable pub long-enough : Lent → Bool
+long-enough l =
+    leb times-need (length (l .times)) && leb chain-bounds-need (length (l .chain-bounds))
+    && leb chain-directions-need (length (l .chain-directions))
 
 -- "A timetable that succeeds writes the events' places of the times slice and … nothing else."
 unfoldable pub times-written : Timetable → Lent → Lent
@@ -28,5 +49,5 @@ chain-written is l =
 
 -- Names every definition of this module, for a proof that computes with them all.
 unfoldable pub open-lent : Unit {0}
-unfolding times-written chain-written
+unfolding long-enough times-written chain-written
 open-lent = tt

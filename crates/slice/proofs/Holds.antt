@@ -20,7 +20,7 @@ use Rattle.floor.proofs.Judging.{goes-on, ends}
 use Rattle.tables.specs.declared.Reading.{Reading}
 use Rattle.tables.specs.Arrays.{path-cells}
 use Rattle.tables.specs.Reading.{Arrays, room, read-answer, arrays-judged, numbers-of, zeros, read-into, Outcome as Read}
-use Rattle.tables.proofs.TablesRead.{Into, into-judged, room-for, no-room, answer-refused, answer-read, answer-short}
+use Rattle.tables.proofs.TablesRead.{Into, into-judged, room-for, no-room, answer-refused, answer-read, answer-numbers, answer-short}
 use Rattle.network.specs.Judge.{within-limits, judge}
 use Rattle.limits.specs.Limits.{limits-kept, paths-within}
 use Rattle.limits.proofs.Kept.{within-kept, within-over, paths-within-is}
@@ -116,22 +116,6 @@ no-book (some b) e = absurd (true≢false e)
 
 -- ---- from the tables that were read
 
--- what an answer tells of a plan
-roads-told : Reading → ℕ
-roads-told (Reading.Read n m w) = n
-roads-told Reading.TooShort = 0
-roads-told (Reading.Refused r) = 0
-
-carts-told : Reading → ℕ
-carts-told (Reading.Read n m w) = m
-carts-told Reading.TooShort = 0
-carts-told (Reading.Refused r) = 0
-
-steps-told : Reading → ℕ
-steps-told (Reading.Read n m w) = w
-steps-told Reading.TooShort = 0
-steps-told (Reading.Refused r) = 0
-
 -- a reader that had room answers and leaves what the judgement says
 into-says : (r c p e v k : List ℕ) → 4096 ≤ length e → 128 ≤ length v → 8192 ≤ length k → (x : Reading) (edges speeds cells : List ℕ)
     → Into r c p e v k x edges speeds cells
@@ -212,9 +196,8 @@ module _ (s : List ℕ) (alone : nothing-else s (tables-in s) (log-in s) ≡ tru
     plan = answer-read (read-tables (tables-in s)) a b w (sym q ∙ said .0)
 
     -- its numbers are those that were told
-    told : Reading.Read a b w ≡ Reading.Read (length (plan .0 .roads)) (length (plan .0 .carts)) (steps (plan .0 .paths))
-    unfolding read-answer
-    told = sym q ∙ said .0 ∙ ap read-answer (plan .1)
+    numbers : (a ≡ length (plan .0 .roads)) × ((b ≡ length (plan .0 .carts)) × (w ≡ steps (plan .0 .paths)))
+    numbers = answer-numbers (plan .0) a b w (sym q ∙ said .0 ∙ ap read-answer (plan .1))
 
     -- the cells are those of its paths
     cells-are : cells ≡ padded (length k) (path-cells (plan .0 .paths))
@@ -223,11 +206,9 @@ module _ (s : List ℕ) (alone : nothing-else s (tables-in s) (log-in s) ≡ tru
 
     -- and the tests are those of the plan
     tests : t ≡ (limits-kept (plan .0) && is-book (log-book (length (plan .0 .carts)) (steps (plan .0 .paths)) (padded (length k) (path-cells (plan .0 .paths))) (take n (drop 196_608 s)) (drop 200_704 s)))
-    unfolding carts-told steps-told
     tests =
         let (y, f) = plan in
-        let eb : b ≡ length (y .carts) = ap carts-told told in
-        let ew : w ≡ steps (y .paths) = ap steps-told told in
+        let (_, (eb, ew)) = numbers in
         let l : List ℕ = take n (drop 196_608 s) in
         let d : List ℕ = drop 200_704 s in
         found ∙ ap (λ (z : List ℕ). paths-within b w z && is-book (log-book b w z l d)) cells-are
@@ -264,7 +245,7 @@ module _ (s : List ℕ) (alone : nothing-else s (tables-in s) (log-in s) ≡ tru
 
     -- neither fails
     pub parts-held : t ≡ true → Ends s lent (Holding.Held a b w n) left
-    unfolding held holding roads-told carts-told steps-told
+    unfolding held holding
     parts-held z = by (limits-kept (plan .0)) refl
       where
         by : (l : Bool) → limits-kept (plan .0) ≡ l → Ends s lent (Holding.Held a b w n) left
@@ -274,8 +255,8 @@ module _ (s : List ℕ) (alone : nothing-else s (tables-in s) (log-in s) ≡ tru
             let (g, eg) = a-book (replay y (first-book y) (log-in s)) (sym (book-asked h) ∙ z) in
             let all : Held = record { tables = tables-in s; log = log-in s; plan = y; book = g } in
             let is : held s ≡ some all = ap (held-by s (tables-in s) (log-in s)) (judged h) ∙ held-where s (tables-in s) (log-in s) y g eg alone in (
-              ap₂ {C = Holding} (λ (i j : ℕ). Holding.Held i j w n) (ap roads-told told) (ap carts-told told)
-                  ∙ ap₂ {C = Holding} (Holding.Held (length (y .roads)) (length (y .carts))) (ap steps-told told) (sizes .3) ∙ sym (ap holding is),
+              ap₂ {C = Holding} (λ (i j : ℕ). Holding.Held i j w n) (numbers .0) (numbers .1 .0)
+                  ∙ ap₂ {C = Holding} (Holding.Held (length (y .roads)) (length (y .carts))) (numbers .1 .1) (sizes .3) ∙ sym (ap holding is),
               λ f ef. ap (λ (u : Held). numbers-of lent (u .plan)) (Option·some-injective _ _ (sym ef ∙ is)) ∙ said .1 y (plan .1),
             )
 
@@ -332,7 +313,7 @@ tells Holding.NoPlan = false
 tells (Holding.Held a b w n) = true
 
 -- it does where one is held
-nothing-told : (o : Option Held) → Holding.NoPlan ≡ holding o → o ≡ none
+pub nothing-told : (o : Option Held) → Holding.NoPlan ≡ holding o → o ≡ none
 unfolding holding tells
 nothing-told none e = refl
 nothing-told (some h) e = absurd (true≢false (sym (ap tells e)))

@@ -10,8 +10,8 @@ use mathlib.Core.List.{List, [], _∷_, _++_, append-assoc}
 use lib.Dec.{eqb, eqb·zero-suc, eqb·suc-zero, lit<, lit≤}
 use lib.ListN.{length, take, drop, getD, replicate, length-append, length-take, length-drop, length-map, replicate-append-replicate, List·getD-eq-default, drop-of-length-le}
 use lib.Seq.{take-nil, take-add, take-all, drop-drop, drop-cons, length-take-le, getD-take, getD-drop}
-use borrow.Author.Tests.{not-true, not-false}
-use Rattle.laws.proofs.Tests.{passes, equal-passes, unequal-fails, below-or-not}
+use borrow.Author.Tests.{not-true, not-false, eq-eqb, ne-eqb}
+use Rattle.laws.proofs.Tests.{passes, below-or-not}
 use Rattle.words.specs.Words.{little, word, words, padded}
 use Rattle.words.proofs.Padding.{padded-length}
 use Rattle.words.proofs.Reading.{words-length, word-little}
@@ -76,14 +76,14 @@ pub text-ends : (s : List ℕ) (i : ℕ) → i < length s → getD s i 0 ≡ 0 �
 unfolding until-zero
 text-ends s i h e =
     ap (λ (x : List ℕ). length (until-zero x)) (drop-cons s i 0 h)
-    ∙ ap (λ (t : Bool). length {A = ℕ} (elim t as (λ _. List ℕ) [ true ↦ [] | false ↦ getD s i 0 ∷ until-zero (drop (suc i) s) ])) (equal-passes (getD s i 0) 0 e)
+    ∙ ap (λ (t : Bool). length {A = ℕ} (elim t as (λ _. List ℕ) [ true ↦ [] | false ↦ getD s i 0 ∷ until-zero (drop (suc i) s) ])) (eq-eqb (getD s i 0) 0 e)
 
 -- another byte is one more
 pub text-goes : (s : List ℕ) (i : ℕ) → i < length s → (getD s i 0 ≡ 0 → ⊥) → length (until-zero (drop i s)) ≡ suc (length (until-zero (drop (i + 1) s)))
 unfolding until-zero
 text-goes s i h e =
     ap (λ (x : List ℕ). length (until-zero x)) (drop-cons s i 0 h)
-    ∙ ap (λ (t : Bool). length {A = ℕ} (elim t as (λ _. List ℕ) [ true ↦ [] | false ↦ getD s i 0 ∷ until-zero (drop (suc i) s) ])) (unequal-fails (getD s i 0) 0 e)
+    ∙ ap (λ (t : Bool). length {A = ℕ} (elim t as (λ _. List ℕ) [ true ↦ [] | false ↦ getD s i 0 ∷ until-zero (drop (suc i) s) ])) (ne-eqb (getD s i 0) 0 e)
     ∙ ap (λ (j : ℕ). suc (length (until-zero (drop j s)))) (sym (add-one i))
 
 -- none is left at the end
@@ -97,13 +97,13 @@ text-over s i h = ap (λ (x : List ℕ). length (until-zero x)) (drop-of-length-
 pub zeros-end : (s : List ℕ) (i : ℕ) → i < length s → (getD s i 0 ≡ 0 → ⊥) → only-zeros (drop i s) ≡ false
 unfolding only-zeros
 zeros-end s i h e =
-    ap only-zeros (drop-cons s i 0 h) ∙ ap (λ (t : Bool). t && only-zeros (drop (suc i) s)) (unequal-fails (getD s i 0) 0 e)
+    ap only-zeros (drop-cons s i 0 h) ∙ ap (λ (t : Bool). t && only-zeros (drop (suc i) s)) (ne-eqb (getD s i 0) 0 e)
 
 -- one zero more
 pub zeros-go : (s : List ℕ) (i : ℕ) → i < length s → getD s i 0 ≡ 0 → only-zeros (drop i s) ≡ only-zeros (drop (i + 1) s)
 unfolding only-zeros
 zeros-go s i h e =
-    ap only-zeros (drop-cons s i 0 h) ∙ ap (λ (t : Bool). t && only-zeros (drop (suc i) s)) (equal-passes (getD s i 0) 0 e)
+    ap only-zeros (drop-cons s i 0 h) ∙ ap (λ (t : Bool). t && only-zeros (drop (suc i) s)) (eq-eqb (getD s i 0) 0 e)
     ∙ ap (λ (j : ℕ). only-zeros (drop j s)) (sym (add-one i))
 
 -- to the end
@@ -151,7 +151,7 @@ text-same (b ∷ x) = by (eqb b 0) (text-same x)
     by false more =
         let e : suc (length x) - suc (length (until-zero x)) ≡ length x - length (until-zero x) = omega arith in
         ap (λ (n : ℕ). eqb b b && same (until-zero x ++ replicate n 0) x) e
-        ∙ ap (λ (t : Bool). t && same (until-zero x ++ replicate (length x - length (until-zero x)) 0) x) (equal-passes b b refl) ∙ more
+        ∙ ap (λ (t : Bool). t && same (until-zero x ++ replicate (length x - length (until-zero x)) 0) x) (eq-eqb b b refl) ∙ more
 
 -- a part of m places in front of a slice
 part-same : (m : ℕ) (rest l : List ℕ) → m ≤ length l

@@ -3,7 +3,7 @@ use Prim.Native.Nat.{ℕ, _≤_, _<_}
 use native.Mathlib.Omega.{arith}
 use mathlib.Core.Path.{_≡_, refl, ap, sym, _∙_, subst}
 use mathlib.Core.List.{List, [], _∷_, flatMap}
-use mathlib.Core.Bool.{Bool, true, false, true≢false, _&&_}
+use mathlib.Core.Bool.{Bool, true, false, true≢false, _&&_, and-false}
 use mathlib.Core.Logic.{_⊎_, inl, inr}
 use mathlib.Core.Option.{Option, none, some, Option·some-injective, Option·some-ne-none, Option·none-ne-some}
 use lib.Dec.{leb}
@@ -20,7 +20,7 @@ use Rattle.floor.specs.Refusal.{Judged, refused, accepted, _>>=_, _>>_, unless-
 use Rattle.floor.specs.Plan.{Road, Cart, Plan}
 use Rattle.floor.specs.Roads.{road, read-roads}
 use Rattle.floor.specs.Carts.{read-carts}
-use Rattle.floor.specs.Paths.{read-paths, off-road, first-same-cell, first-exchange}
+use Rattle.floor.specs.Paths.{read-paths, steps, off-road, first-same-cell, first-exchange}
 use Rattle.floor.specs.Tables.{Tables, read-tables}
 use Rattle.tables.specs.Arrays.{road-numbers, cart-numbers, path-cells}
 use Rattle.tables.specs.Reading.{apart, read-apart, Arrays, room, Outcome, read-answer, zeros, numbers-of, arrays-judged, reading, read-into}
@@ -154,6 +154,18 @@ unfolding read-answer tells
 answer-read (refused q) n m w e = absurd (true≢false (ap tells e))
 answer-read (accepted p) n m w e = (p, refl)
 
+-- how many roads, carts and steps it tells of
+told : Reading → ℕ × (ℕ × ℕ)
+told (Reading.Read n m w) = (n, (m, w))
+told Reading.TooShort = (0, (0, 0))
+told (Reading.Refused r) = (0, (0, 0))
+
+-- they are the plan's
+pub answer-numbers : (p : Plan) (n m w : ℕ) → Reading.Read n m w ≡ read-answer (accepted p)
+    → (n ≡ length (p .roads)) × ((m ≡ length (p .carts)) × (w ≡ steps (p .paths)))
+unfolding read-answer told
+answer-numbers p n m w e = (ap (λ (r : Reading). told r .0) e, (ap (λ (r : Reading). told r .1 .0) e, ap (λ (r : Reading). told r .1 .1) e))
+
 -- a judgement never says that an array is too short
 pub answer-short : (j : Judged Plan) → Reading.TooShort ≡ read-answer j → ⊥
 unfolding read-answer answered tells
@@ -225,13 +237,5 @@ room-for e s k a b c = simp (le-leb 4096 (length e) a, le-leb 128 (length s) b, 
 pub no-room : (e s k : List ℕ) → (length e < 4096) ⊎ ((length s < 128) ⊎ (length k < 8192)) → room (record { roads = e; carts = s; cells = k }) ≡ false
 unfolding room
 no-room e s k (inl h) = simp (lt-leb 4096 (length e) h)
-no-room e s k (inr (inl h)) = ap (λ (b : Bool). leb 4096 (length e) && b && leb 8192 (length k)) (lt-leb 128 (length s) h) ∙ by (leb 4096 (length e))
-  where
-    by : (a : Bool) → (a && false && leb 8192 (length k)) ≡ false
-    by true = refl
-    by false = refl
-no-room e s k (inr (inr h)) = ap (λ (b : Bool). leb 4096 (length e) && leb 128 (length s) && b) (lt-leb 8192 (length k) h) ∙ by (leb 4096 (length e) && leb 128 (length s))
-  where
-    by : (a : Bool) → (a && false) ≡ false
-    by true = refl
-    by false = refl
+no-room e s k (inr (inl h)) = ap (λ (b : Bool). leb 4096 (length e) && b && leb 8192 (length k)) (lt-leb 128 (length s) h) ∙ ap (λ (b : Bool). b && leb 8192 (length k)) (and-false (leb 4096 (length e)))
+no-room e s k (inr (inr h)) = ap (λ (b : Bool). leb 4096 (length e) && leb 128 (length s) && b) (lt-leb 8192 (length k) h) ∙ and-false (leb 4096 (length e) && leb 128 (length s))

@@ -14,6 +14,7 @@ use Rattle.network.specs.BoundArrays.{bound-ends, bound-range}
 use Rattle.slice.specs.declared.Holding.{Holding}
 use Rattle.slice.specs.PlanSlice.{plan-need, Held, held}
 use Rattle.slice.specs.Holding.{holding, arrays-held, Outcome, read-slice, plan-into}
+use Rattle.slice.proofs.Holds.{nothing-told}
 use Rattle.timing.specs.declared.Bounding.{Bounding}
 use Rattle.timing.specs.Bounding.{Holds, bounding-fits, bounding, held-bounds, bounding-answer, bounding-written}
 use Rattle.timing.proofs.Written.{Wrote}
@@ -96,12 +97,7 @@ module _ (s : List ℕ) (long : plan-need ≤ length s) where
 
     -- no plan
     pub no-plan : x ≡ Holding.NoPlan → held s ≡ none
-    unfolding holding
-    no-plan q = by (held s) (sym q ∙ said)
-      where
-        by : (o : Option Held) → Holding.NoPlan ≡ holding o → o ≡ none
-        by none z = refl
-        by (some h) z = absurd (let n : _≡_ {A = ℕ} 1 2 = ap case-of z in omega arith)
+    no-plan q = nothing-told (held s) (sym q ∙ said)
 
     -- a plan, and its numbers in the arrays
     pub held-there : (edges speeds cells : List ℕ)
