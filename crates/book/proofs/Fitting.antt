@@ -1,7 +1,7 @@
 -- Paths in an array that fit: their first events in an array, and the book of a log over them. Assumes nothing.
 use Prim.Native.Nat.{ℕ, zero, suc, _+_, _*_, _≤_, _<_}
 use native.Mathlib.Omega.{arith}
-use mathlib.Core.Path.{_≡_, refl, ap, sym, _∙_, subst}
+use mathlib.Core.Path.{_≡_, refl, ap, ap₂, sym, _∙_, subst}
 use mathlib.Core.Logic.{⊎-elim}
 use mathlib.Core.Bool.{Bool, true, false, _&&_, cond, not}
 use mathlib.Core.List.{List, [], _∷_, _++_, map, flatMap, List·Memᴰ, List·Memᴰ·head, List·Memᴰ·tail, List·Memᴰ·not-nil, List·Memᴰ·cases-cons}
@@ -23,12 +23,14 @@ use Rattle.limits.specs.Limits.{of-paths}
 use Rattle.limits.specs.Orders.{first-events, events-fit, firsts-fitting}
 use Rattle.limits.proofs.Counts.{point-count, route-count}
 use Rattle.limits.proofs.RowBounds.{of-paths-carts}
-use Rattle.schedule.specs.Book.{Book, first-book, replay}
+use Rattle.schedule.specs.Book.{Report, _at_, Book, first-book, in-time, replay}
 use Rattle.schedule.specs.Added.{added-bounds}
 use Rattle.book.specs.declared.Added.{Added}
+use Rattle.book.specs.declared.Checked.{Checked}
 use Rattle.book.specs.declared.Replayed.{Replayed}
-use Rattle.book.specs.Log.{entries, log-book, is-book, book-fitting, added-of, added-answer}
-use Rattle.book.specs.Replaying.{times-of, Firsts, replayed}
+use Rattle.book.specs.Log.{entries, log-book, is-book, checked, book-fitting, added-of, added-answer}
+use Rattle.book.specs.Replaying.{times-of, next-fits, time-fits, Firsts, Counted, replayed}
+use Rattle.book.proofs.Replays.{replayed-none, replayed-some, next-is}
 use Rattle.book.proofs.Starts.{first-most, firsts-rise}
 use Rattle.book.proofs.Along.{all-along, all-few}
 use Rattle.book.proofs.ByLog.{added-are, times-most}
@@ -120,20 +122,6 @@ module _ (n w : ℕ) (s : List ℕ) where
     pub the-book : events-fit n w s 65 ≡ true → log-book n w s cs ts ≡ replay plan (first-book plan) (entries cs ts)
     unfolding log-book
     the-book e = ap (λ (b : Bool). cond b (replay plan (first-book plan) (entries cs ts)) none) e
-
--- what a replay answers says whether there is a book
-pub replayed-none : (o : Option Book) → Replayed.NoBook ≡ replayed o → o ≡ none
-unfolding replayed
-replayed-none none e = refl
-replayed-none (some b) e = absurd (told e)
-  where
-    told : ¬ (Replayed.NoBook ≡ Replayed.Clock (b .clock))
-    told q = let z : _≡_ {A = ℕ} 0 1 = ap (λ (r : Replayed). elim r [ Replayed.NoBook ↦ 0 | Replayed.Clock t ↦ 1 ]) q in omega arith
-
-pub replayed-some : (o : Option Book) (t : ℕ) → Replayed.Clock t ≡ replayed o → (b : Book) × (o ≡ some b) × (b .clock ≡ t)
-unfolding replayed
-replayed-some none t e = absurd (let z : _≡_ {A = ℕ} 1 0 = ap (λ (r : Replayed). elim r [ Replayed.NoBook ↦ 0 | Replayed.Clock t ↦ 1 ]) e in omega arith)
-replayed-some (some b) t e = (b, refl, sym (ap (λ (r : Replayed). elim r [ Replayed.NoBook ↦ 0 | Replayed.Clock x ↦ x ]) e))
 
 -- ---- whether there is a book
 
@@ -264,3 +252,24 @@ module _ (n w : ℕ) (s cs ts fs : List ℕ) (t : ℕ) (k : Writing n w s cs ts 
       all-few fs n t (entries cs ts) (omega arith) (λ i l. firsts-rise (plan n w s) n fs (k .firsts) i l .0) in
       all-added (plan n w s) (log-book n w s cs ts) a b g h (k .book) (k .given) (all-along fs n t (entries cs ts)) are
       (omega (arith, most, first-most (plan n w s) n fs (k .firsts) n (omega arith))) m u v z
+
+-- ---- what it says of a report
+
+-- without a book
+pub none-checked : (p : Plan) (o : Option Book) (r : Report) → o ≡ none → record { next = false; timely = false } ≡ checked p o r
+unfolding checked
+none-checked p o r e = ap (λ (x : Option Book). checked p x r) (sym e)
+
+-- by the counts and the clock of a book
+pub book-checked : (n w : ℕ) (s cs ts fs : List ℕ) (t : ℕ) → Writing n w s cs ts fs t → (counts : List ℕ)
+    → ((p : Plan) → Firsts p n fs → (b : Book) → replay p (first-book p) (entries cs ts) ≡ some b → Counted b n counts)
+    → (c u : ℕ) (x y : Bool) → x ≡ next-fits fs n counts c → y ≡ time-fits t u
+    → record { next = x; timely = y } ≡ checked (plan n w s) (log-book n w s cs ts) (c at u)
+unfolding checked time-fits in-time
+book-checked n w s cs ts fs t k counts left c u x y ex ey =
+    let b : Book = k .book in
+    let kept : Counted b n counts = left (plan n w s) (k .firsts) b (k .replays) in
+    ap₂ {C = Checked} (λ (i j : Bool). record { next = i; timely = j })
+    (ex ∙ next-is (plan n w s) n fs cs ts (k .firsts) b counts kept c u)
+    (ey ∙ ap (λ (i : ℕ). leb i u && leb u 1_000_000_000_000) (sym (k .clock-is)))
+    ∙ ap (λ (o : Option Book). checked (plan n w s) o (c at u)) (sym (k .given))

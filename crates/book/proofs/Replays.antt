@@ -6,7 +6,7 @@ use mathlib.Core.Path.{_≡_, refl, ap, sym, _∙_, subst}
 use mathlib.Core.Logic.{⊎-elim}
 use mathlib.Core.Bool.{Bool, true, false, _&&_, not, cond, and-false}
 use mathlib.Core.List.{List, [], _∷_, _++_, map}
-use mathlib.Core.Option.{none}
+use mathlib.Core.Option.{Option, none, some, Option·some-injective}
 use lib.Dec.{T, leb, ltb, leb→le, ltb→lt}
 use lib.ListN.{length, getD, take, drop, set, replicate, length-append, length-map, length-set, getD-replicate, drop-of-length-le}
 use lib.Seq.{drop-cons, drop-drop}
@@ -20,7 +20,7 @@ use Rattle.schedule.specs.Book.{_at_, Book, first-book, is-there, points-of, pa
 use Rattle.schedule.proofs.Log.{replay-on}
 use Rattle.book.specs.declared.Replayed.{Replayed}
 use Rattle.book.specs.Log.{entries}
-use Rattle.book.specs.Replaying.{next-fits, report-fits, Firsts, replayed}
+use Rattle.book.specs.Replaying.{next-fits, time-fits, report-fits, Firsts, Counted, replayed}
 use Rattle.book.proofs.Starts.{points-between}
 
 -- ---- whether a cart has a point to pass
@@ -56,28 +56,31 @@ module _ (firsts : List ℕ) (carts : ℕ) (counts : List ℕ) (c : ℕ) where
       (leb→le 1 c from-1, leb→le c carts last, ltb→lt (getD firsts (c - 1) 0 + getD counts (c - 1) 0) (getD firsts c 0) more)
 
   module _ (clock t : ℕ) (r : Bool) (e : r ≡ next-fits firsts carts counts c) where
-    -- no point, a time below the clock or one over the limit: it is not accepted
+    -- no point to pass: it is not accepted
     pub no-next : not r ≡ true → false ≡ report-fits firsts carts counts clock c t
     unfolding report-fits
-    no-next h = sym (ap (λ (b : Bool). b && (leb clock t && leb t 1_000_000_000_000)) (sym e ∙ not-true r h))
+    no-next h = sym (ap (λ (b : Bool). b && time-fits clock t) (sym e ∙ not-true r h))
 
-    pub too-early : t < clock → false ≡ report-fits firsts carts counts clock c t
-    unfolding report-fits
-    too-early h =
-        sym (ap (λ (b : Bool). next-fits firsts carts counts c && (b && leb t 1_000_000_000_000)) (lt-leb clock t h) ∙ and-false (next-fits firsts carts counts c))
+    module _ (h : not r ≡ false) (u : Bool) (q : u ≡ time-fits clock t) where
+      -- nor where its time is out of order
+      pub not-timely : not u ≡ true → false ≡ report-fits firsts carts counts clock c t
+      unfolding report-fits
+      not-timely k = sym (ap (λ (b : Bool). b && time-fits clock t) (sym e ∙ not-false r h) ∙ sym q ∙ not-true u k)
 
-    pub too-late : 1_000_000_000_000 < t → false ≡ report-fits firsts carts counts clock c t
-    unfolding report-fits
-    too-late h =
-        sym (ap (λ (b : Bool). next-fits firsts carts counts c && (leb clock t && b)) (lt-leb t 1_000_000_000_000 h)
-        ∙ ap (λ (b : Bool). next-fits firsts carts counts c && b) (and-false (leb clock t)) ∙ and-false (next-fits firsts carts counts c))
+      -- any other is
+      pub fits : not u ≡ false → true ≡ report-fits firsts carts counts clock c t
+      unfolding report-fits
+      fits k = sym (ap (λ (b : Bool). b && time-fits clock t) (sym e ∙ not-false r h) ∙ sym q ∙ not-false u k)
 
-    -- any other is
-    pub fits : not r ≡ false → clock ≤ t → t ≤ 1_000_000_000_000 → true ≡ report-fits firsts carts counts clock c t
-    unfolding report-fits
-    fits h g k =
-        sym (ap (λ (b : Bool). b && (leb clock t && leb t 1_000_000_000_000)) (sym e ∙ not-false r h)
-        ∙ ap (λ (b : Bool). b && leb t 1_000_000_000_000) (le-leb clock t g) ∙ le-leb t 1_000_000_000_000 k)
+-- a time below the clock is out of order
+pub early : (clock t : ℕ) → t < clock → false ≡ time-fits clock t
+unfolding time-fits
+early clock t h = sym (ap (λ (b : Bool). b && leb t 1_000_000_000_000) (lt-leb clock t h))
+
+-- any other goes by the limit
+pub not-early : (clock t : ℕ) → clock ≤ t → leb t 1_000_000_000_000 ≡ time-fits clock t
+unfolding time-fits
+not-early clock t h = sym (ap (λ (b : Bool). b && leb t 1_000_000_000_000) (le-leb clock t h))
 
 -- ---- the reports in bytes
 
@@ -99,8 +102,7 @@ pub record Before (p : Plan) (carts : ℕ) (cs ts counts : List ℕ) (clock i : 
   pub book : Book
   pub rest : replay p (first-book p) (entries cs ts) ≡ replay p book (entries (drop i cs) (drop (8 * i) ts))
   pub clock-is : book .clock ≡ clock
-  pub counted : (j : ℕ) → j < carts → getD counts j 0 ≡ length (getD (book .passed) j [])
-  pub carts-are : length (book .passed) ≡ carts
+  pub kept : Counted book carts counts
 
 -- of the first book each list has one time
 first-one : (rs : List Route) (j : ℕ) → j < length rs → length {A = ℕ} (getD (map (λ (r : Route). 0 ∷ []) rs) j []) ≡ 1
@@ -138,11 +140,40 @@ module _ (p : Plan) (carts : ℕ) (firsts cs ts : List ℕ) (f : Firsts p carts 
         book = first-book p;
         rest = refl;
         clock-is = refl;
-        counted = λ j l.
-            let inside : j < length (routes-of p) = omega (arith, f .routes-are) in
-            ap (λ (x : List ℕ). getD x j 0) e ∙ getD-replicate 64 j 1 0 (omega arith) ∙ sym (first-one (routes-of p) j inside);
-        carts-are = length-map (routes-of p) (λ (r : Route). 0 ∷ []) ∙ f .routes-are;
+        kept =
+            record {
+              counted = λ j l.
+                  let inside : j < length (routes-of p) = omega (arith, f .routes-are) in
+                  ap (λ (x : List ℕ). getD x j 0) e ∙ getD-replicate 64 j 1 0 (omega arith) ∙ sym (first-one (routes-of p) j inside);
+              carts-are = length-map (routes-of p) (λ (r : Route). 0 ∷ []) ∙ f .routes-are;
+            };
       }
+
+  -- a cart has a point to pass where the counts of a book say so
+  pub next-is : (b : Book) (counts : List ℕ) → Counted b carts counts → (c t : ℕ) → next-fits firsts carts counts c ≡ has-next p b (c at t)
+  unfolding next-fits has-next is-there passed-by
+  next-is b counts k c t = by (leb 1 c) refl (leb c carts) refl ∙ ap (λ (n : ℕ). leb 1 c && leb c n && theirs) (sym (f .carts-are))
+    where
+      mine : Bool
+      mine = ltb (getD firsts (c - 1) 0 + getD counts (c - 1) 0) (getD firsts c 0)
+
+      theirs : Bool
+      theirs = ltb (length (passed-by b c)) (points-of p c)
+
+      none-there : (x y : Bool) → y ≡ false → (x && y && mine) ≡ (x && y && theirs)
+      none-there false y h = refl
+      none-there true y h = ap (λ (z : Bool). z && mine) h ∙ sym (ap (λ (z : Bool). z && theirs) h)
+
+      by : (x : Bool) → leb 1 c ≡ x → (y : Bool) → leb c carts ≡ y → (leb 1 c && leb c carts && mine) ≡ (leb 1 c && leb c carts && theirs)
+      by false g y h = ap (λ (x : Bool). x && leb c carts && mine) g ∙ sym (ap (λ (x : Bool). x && leb c carts && theirs) g)
+      by true g false h = none-there (leb 1 c) (leb c carts) h
+      by true g true h =
+          let from-1 : 1 ≤ c = leb-true 1 c g in
+          let last : c ≤ carts = leb-true c carts h in
+          let passed : getD counts (c - 1) 0 ≡ length (getD (b .passed) (c - 1) []) = k .counted (c - 1) (omega arith) in
+          let between : getD firsts c 0 ≡ getD firsts (c - 1) 0 + points-of p c = points-between p carts firsts f c from-1 last in
+          ap (λ (z : Bool). leb 1 c && leb c carts && z)
+          (same-test (getD firsts (c - 1) 0 + getD counts (c - 1) 0) (getD firsts c 0) (length (passed-by b c)) (points-of p c) (λ l. omega arith) (λ l. omega arith))
 
   module _ (counts : List ℕ) (clock i : ℕ) (b : Before p carts cs ts counts clock i) (l : i < length cs) where
     -- the report at hand: its cart c, and its time t
@@ -154,37 +185,11 @@ module _ (p : Plan) (carts : ℕ) (firsts cs ts : List ℕ) (f : Firsts p carts 
           ∙ ap (λ (n : ℕ). (n at word-at 8 ts i) ∷ entries (drop (i + 1) cs) (drop (8 * (i + 1)) ts)) (sym c-is)
           ∙ ap (λ (n : ℕ). (c at n) ∷ entries (drop (i + 1) cs) (drop (8 * (i + 1)) ts)) (sym t-is))
 
-      -- its cart has passed fewer points than it has
-      next-is : next-fits firsts carts counts c ≡ has-next p (b .book) (c at t)
-      unfolding next-fits has-next is-there passed-by
-      next-is = by (leb 1 c) refl (leb c carts) refl ∙ ap (λ (n : ℕ). leb 1 c && leb c n && theirs) (sym (f .carts-are))
-        where
-          mine : Bool
-          mine = ltb (getD firsts (c - 1) 0 + getD counts (c - 1) 0) (getD firsts c 0)
-
-          theirs : Bool
-          theirs = ltb (length (passed-by (b .book) c)) (points-of p c)
-
-          none-there : (x y : Bool) → y ≡ false → (x && y && mine) ≡ (x && y && theirs)
-          none-there false y h = refl
-          none-there true y h = ap (λ (z : Bool). z && mine) h ∙ sym (ap (λ (z : Bool). z && theirs) h)
-
-          by : (x : Bool) → leb 1 c ≡ x → (y : Bool) → leb c carts ≡ y → (leb 1 c && leb c carts && mine) ≡ (leb 1 c && leb c carts && theirs)
-          by false g y h = ap (λ (x : Bool). x && leb c carts && mine) g ∙ sym (ap (λ (x : Bool). x && leb c carts && theirs) g)
-          by true g false h = none-there (leb 1 c) (leb c carts) h
-          by true g true h =
-              let from-1 : 1 ≤ c = leb-true 1 c g in
-              let last : c ≤ carts = leb-true c carts h in
-              let passed : getD counts (c - 1) 0 ≡ length (getD (b .book .passed) (c - 1) []) = b .counted (c - 1) (omega arith) in
-              let between : getD firsts c 0 ≡ getD firsts (c - 1) 0 + points-of p c = points-between p carts firsts f c from-1 last in
-              ap (λ (z : Bool). leb 1 c && leb c carts && z)
-              (same-test (getD firsts (c - 1) 0 + getD counts (c - 1) 0) (getD firsts c 0) (length (passed-by (b .book) c)) (points-of p c) (λ k. omega arith) (λ k. omega arith))
-
       -- it is accepted where it fits
       accepted-is : report-fits firsts carts counts clock c t ≡ acceptable p (b .book) (c at t)
-      unfolding report-fits acceptable in-time
+      unfolding report-fits time-fits acceptable in-time
       accepted-is =
-          ap (λ (x : Bool). x && (leb clock t && leb t 1_000_000_000_000)) next-is
+          ap (λ (x : Bool). x && (leb clock t && leb t 1_000_000_000_000)) (next-is (b .book) counts (b .kept) c t)
           ∙ ap (λ (n : ℕ). has-next p (b .book) (c at t) && (leb n t && leb t 1_000_000_000_000)) (sym (b .clock-is))
 
       module _ (r : Bool) (e : r ≡ report-fits firsts carts counts clock c t) where
@@ -207,16 +212,43 @@ module _ (p : Plan) (carts : ℕ) (firsts cs ts : List ℕ) (f : Firsts p carts 
               book = pass-next (b .book) (c at t);
               rest = on ∙ replay-on p (b .book) (c at t) (entries (drop (i + 1) cs) (drop (8 * (i + 1)) ts)) (sym (e ∙ accepted-is) ∙ yes);
               clock-is = refl;
-              counted = λ j l.
-                  ap (λ (x : List ℕ). getD x j 0) (q ∙ ap (λ (x : Bool). cond x (set counts (c - 1) (getD counts (c - 1) 0 + 1)) counts) yes)
-                  ∙ one-counted counts old (c - 1) j t (omega (arith, room, l)) (omega (arith, b .carts-are, l)) (b .counted j l);
-              carts-are = length-set old (c - 1) (getD old (c - 1) [] ++ (t ∷ [])) ∙ b .carts-are;
+              kept =
+                  record {
+                    counted = λ j l.
+                        ap (λ (x : List ℕ). getD x j 0) (q ∙ ap (λ (x : Bool). cond x (set counts (c - 1) (getD counts (c - 1) 0 + 1)) counts) yes)
+                        ∙ one-counted counts old (c - 1) j t (omega (arith, room, l)) (omega (arith, b .kept .carts-are, l)) (b .kept .counted j l);
+                    carts-are = length-set old (c - 1) (getD old (c - 1) [] ++ (t ∷ [])) ∙ b .kept .carts-are;
+                  };
             }
 
 -- none is left
-pub before-last : (p : Plan) (carts : ℕ) (cs ts counts : List ℕ) (clock i : ℕ) → Before p carts cs ts counts clock i → length cs ≤ i
-    → Replayed.Clock clock ≡ replayed (replay p (first-book p) (entries cs ts))
-unfolding replay replayed entries
-before-last p carts cs ts counts clock i b h =
-    let none-left : drop i cs ≡ [] = drop-of-length-le cs {i = i} h in
-    sym (ap replayed (b .rest ∙ ap (λ (l : List ℕ). replay p (b .book) (entries l (drop (8 * i) ts))) none-left) ∙ ap Replayed.Clock (b .clock-is))
+module _ (p : Plan) (carts : ℕ) (cs ts counts : List ℕ) (clock i : ℕ) (b : Before p carts cs ts counts clock i) (h : length cs ≤ i) where
+  -- so this is the book
+  at-last : replay p (first-book p) (entries cs ts) ≡ some (b .book)
+  unfolding replay entries
+  at-last =
+      let none-left : drop i cs ≡ [] = drop-of-length-le cs {i = i} h in
+      b .rest ∙ ap (λ (l : List ℕ). replay p (b .book) (entries l (drop (8 * i) ts))) none-left
+
+  -- its clock is answered
+  pub before-last : Replayed.Clock clock ≡ replayed (replay p (first-book p) (entries cs ts))
+  unfolding replayed
+  before-last = sym (ap replayed at-last ∙ ap Replayed.Clock (b .clock-is))
+
+  -- and the counts are its own
+  pub counts-left : (b′ : Book) → replay p (first-book p) (entries cs ts) ≡ some b′ → Counted b′ carts counts
+  counts-left b′ e = subst (λ (x : Book). Counted x carts counts) (Option·some-injective _ _ (sym at-last ∙ e)) (b .kept)
+
+-- what a replay answers says whether there is a book
+pub replayed-none : (o : Option Book) → Replayed.NoBook ≡ replayed o → o ≡ none
+unfolding replayed
+replayed-none none e = refl
+replayed-none (some b) e = absurd (told e)
+  where
+    told : ¬ (Replayed.NoBook ≡ Replayed.Clock (b .clock))
+    told q = let z : _≡_ {A = ℕ} 0 1 = ap (λ (r : Replayed). elim r [ Replayed.NoBook ↦ 0 | Replayed.Clock t ↦ 1 ]) q in omega arith
+
+pub replayed-some : (o : Option Book) (t : ℕ) → Replayed.Clock t ≡ replayed o → (b : Book) × (o ≡ some b) × (b .clock ≡ t)
+unfolding replayed
+replayed-some none t e = absurd (let z : _≡_ {A = ℕ} 1 0 = ap (λ (r : Replayed). elim r [ Replayed.NoBook ↦ 0 | Replayed.Clock t ↦ 1 ]) e in omega arith)
+replayed-some (some b) t e = (b, refl, sym (ap (λ (r : Replayed). elim r [ Replayed.NoBook ↦ 0 | Replayed.Clock x ↦ x ]) e))

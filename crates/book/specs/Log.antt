@@ -12,9 +12,10 @@ use Rattle.tables.specs.Arrays.{paths-in}
 use Rattle.network.specs.Bounds.{Bound}
 use Rattle.limits.specs.Limits.{of-paths}
 use Rattle.limits.specs.Orders.{events-fit}
-use Rattle.schedule.specs.Book.{Report, Book, first-book, replay}
+use Rattle.schedule.specs.Book.{Report, Book, first-book, has-next, in-time, replay}
 use Rattle.schedule.specs.Added.{added-bounds}
 use Rattle.book.specs.declared.Added.{Added}
+use Rattle.book.specs.declared.Checked.{Checked}
 
 -- the reports of these carts, their times in the bytes s
 unfoldable pub entries : List ℕ → List ℕ → List Report
@@ -32,7 +33,12 @@ unfoldable pub is-book : Option Book → Bool
 is-book none = false
 is-book (some b) = true
 
--- the same, where two arrays have room for a bound for each of 4,096 events
+-- what the book says of a report, if there is one: whether it is no 11, and whether it is no 12
+unfoldable pub checked : Plan → Option Book → Report → Checked
+checked p none r = record { next = false; timely = false }
+checked p (some b) r = record { next = has-next p b r; timely = in-time b r }
+
+-- the book, where two arrays have room for a bound for each of 4,096 events
 unfoldable pub book-fitting : ℕ → ℕ → Option Book → Option Book
 book-fitting ends ranges b = cond (leb 8192 ends && leb 8192 ranges) b none
 
@@ -48,5 +54,5 @@ added-answer p (some b) = Added.Count (length (added-bounds p b))
 
 -- Names every definition of this module, for a proof that computes with them all.
 unfoldable pub open-log : Unit {0}
-unfolding entries log-book is-book book-fitting added-of added-answer
+unfolding entries log-book is-book checked book-fitting added-of added-answer
 open-log = tt

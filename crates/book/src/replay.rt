@@ -2,15 +2,16 @@
 use crate::Replayed;
 ghost use mathlib.Core.Path.{_≡_};
 ghost use mathlib.Core.Bool.{cond};
+ghost use mathlib.Core.Option.{some};
 ghost use Prim.Native.Nat.{_+_, _-_, _≤_, _<_};
 ghost use lib.ListN.{length, getD, set, replicate};
 ghost use Rattle.floor.specs.Plan.{Plan};
-ghost use Rattle.schedule.specs.Book.{first-book, replay};
+ghost use Rattle.schedule.specs.Book.{Book, first-book, replay};
 ghost use Rattle.book.specs.Log.{entries};
-ghost use Rattle.book.specs.Replaying.{next-fits, report-fits, Firsts, replayed};
+ghost use Rattle.book.specs.Replaying.{next-fits, time-fits, report-fits, Firsts, Counted, replayed};
 
 // Whether cart c is there and has a point still to be passed.
-fn has_next(firsts: &[u16], carts: usize, counts: &[u16], c: usize) -> bool
+pub(crate) fn has_next(firsts: &[u16], carts: usize, counts: &[u16], c: usize) -> bool
     requires { ⌜ (carts < length (now firsts)) × (carts ≤ length (now counts)) ⌝ }
     ensures { λ r. ⌜ r ≡ next-fits (now (firsts .entry)) carts (now (counts .entry)) c ⌝ }
 {
@@ -22,6 +23,16 @@ fn has_next(firsts: &[u16], carts: usize, counts: &[u16], c: usize) -> bool
     }
     let passed = firsts[c - 1] as usize + counts[c - 1] as usize;
     passed < firsts[c] as usize
+}
+
+// Whether a time is neither below the clock nor over 10^12.
+pub(crate) fn in_time(clock: u64, t: u64) -> bool
+    ensures { λ r. ⌜ r ≡ time-fits clock t ⌝ }
+{
+    if t < clock {
+        return false;
+    }
+    t <= 1_000_000_000_000
 }
 
 // Takes the report of cart c at time t, if it is accepted: one point more is passed.
@@ -40,10 +51,7 @@ fn take_report(
     if !has_next(firsts, carts, counts, c) {
         return false;
     }
-    if t < clock {
-        return false;
-    }
-    if 1_000_000_000_000 < t {
+    if !in_time(clock, t) {
         return false;
     }
     counts[c - 1] += 1;
@@ -59,7 +67,8 @@ pub(crate) fn replay(
     counts: &mut [u16],
 ) -> Replayed
     requires { ⌜ (carts ≤ 64) × (carts < length (now firsts)) × (now counts ≡ replicate 64 1) ⌝ }
-    ensures { λ r. ⌜ ((p : Plan) → Firsts p carts (now (firsts .entry)) → r ≡ replayed (replay p (first-book p) (entries (now (log .entry)) (now (times .entry))))) ⌝ }
+    ensures answer { λ r. ⌜ ((p : Plan) → Firsts p carts (now (firsts .entry)) → r ≡ replayed (replay p (first-book p) (entries (now (log .entry)) (now (times .entry))))) ⌝ }
+    ensures left { λ _. ⌜ ((p : Plan) → Firsts p carts (now (firsts .entry)) → (b : Book) → replay p (first-book p) (entries (now (log .entry)) (now (times .entry))) ≡ some b → Counted b carts (now (counts .exit))) ⌝ }
 {
     let mut clock: u64 = 0;
     let mut i = 0;

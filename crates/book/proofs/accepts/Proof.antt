@@ -44,7 +44,7 @@ returns-2 c =
     let f = r .before .before .before .before .before in
     let a = f .before .before .before .before .before .args in
     is-none _ (refused-book (a .carts) (a .steps) (a .cells .now) (a .log .now) (a .times .now) (f .first-events .result) (f .first-events .ensures .0) (r .before .before .before .if1 .left) _
-    (f .first-events .ensures .1) (r .replay .result) (r .replay .ensures) (c .enum-told .given .1))
+    (f .first-events .ensures .1) (r .replay .result) (r .replay .ensures .0) (c .enum-told .given .1))
 
 returns-3 : tie.Need-returns-3
 returns-3 c =
@@ -52,7 +52,7 @@ returns-3 c =
     let f = r .before .before .before .before .before in
     let a = f .before .before .before .before .before .args in
     let (b, e, q) = accepted-book (a .carts) (a .steps) (a .cells .now) (a .log .now) (a .times .now) (f .first-events .result) (f .first-events .ensures .0) (r .before .before .before .if1 .left) _
-    (f .first-events .ensures .1) (r .replay .result) (r .replay .ensures) _ (c .enum-told2 .given .1) in
+    (f .first-events .ensures .1) (r .replay .result) (r .replay .ensures .0) _ (c .enum-told2 .given .1) in
     is-some _ b e
 
 pub accepts-spec : {M : Type 1} → statement M

@@ -61,7 +61,7 @@ known k =
     let f = r .before .before .before .before .before in
     let a = f .before .before .before .before .before .before .before .before .before .args in
     writing-of (a .carts) (a .steps) (a .cells .now) (a .log .now) (a .times .now) (f .first-events .result) (f .first-events .ensures .0) (r .before .before .before .if3 .left) _
-    (f .first-events .ensures .1) (f .first-events .kept .1 .1 .1 .0) (r .replay .result) (r .replay .ensures) _ (k .before .x .given .1)
+    (f .first-events .ensures .1) (f .first-events .kept .1 .1 .1 .0) (r .replay .result) (r .replay .ensures .0) _ (k .before .x .given .1)
 
 write-all-requires : tie.Need-write-all-requires
 write-all-requires c κs =
@@ -78,7 +78,7 @@ returns-4 c =
     let a = e .before .before .before .before .before .before .before .args in
     no-added (plan (a .carts) (a .steps) (a .cells .now)) _ (a .ends .now) (a .ranges .now) (e .before .if1 .left) (e .if2 .left)
     (refused-book (a .carts) (a .steps) (a .cells .now) (a .log .now) (a .times .now) (f .first-events .result) (f .first-events .ensures .0) (r .before .before .before .if3 .left) _
-    (f .first-events .ensures .1) (r .replay .result) (r .replay .ensures) (c .enum-told .given .1))
+    (f .first-events .ensures .1) (r .replay .result) (r .replay .ensures .0) (c .enum-told .given .1))
 
 same-length : tie.Need-same-length
 same-length c = search needs

@@ -2,10 +2,14 @@
 use Prim.Native.Nat.{ℕ, _-_, _≤_}
 use native.Mathlib.Omega.{arith}
 use mathlib.Core.Path.{_≡_, refl, ap, sym, _∙_}
+use mathlib.Core.Option.{Option·none-ne-some}
 use lib.ListN.{length, length-replicate}
 use Rattle.floor.specs.Plan.{Plan}
-use Rattle.book.specs.Replaying.{Firsts}
-use Rattle.book.proofs.Replays.{Before, before-first, stopped, before-next, before-last}
+use Rattle.schedule.specs.Book.{first-book, replay}
+use Rattle.book.specs.declared.Replayed.{Replayed}
+use Rattle.book.specs.Log.{entries}
+use Rattle.book.specs.Replaying.{Firsts, replayed}
+use Rattle.book.proofs.Replays.{Before, before-first, stopped, before-next, before-last, counts-left, replayed-none}
 use Rattle.book.proofs.replay.replay.Statement.{statement}
 use Rattle.book.proofs.replay.replay.Tie as tie
 
@@ -51,14 +55,16 @@ same-length : tie.Need-same-length Inv-loop μ-loop
 same-length c = after-length (c .before .before .before) ∙ sym (start-length (c .before .before .before .before .before .before .before .before .before .before .before .before .before))
 
 returns : tie.Need-returns Inv-loop μ-loop
-returns c = λ p f.
+returns c =
     let t = c .before .before .before in
     let g = t .before .before in
     let l = g .before .before .before .loop in
     let s = g .before .before .before .before .before .before .before .before in
     let a = s .args in
-    stopped p (a .carts) (a .firsts .now) (a .log .now) (a .times .now) f (l .counts) (l .clock) (l .i) (l .inv .2 p f) (g .before .before .loop-test .taken) _ (g .get64 .result) refl (g .get64 .ensures)
-    (t .take-report .result) (t .take-report .ensures .0) (c .if1 .taken)
+    let none-there : (p : Plan) → Firsts p (a .carts) (a .firsts .now) → Replayed.NoBook ≡ replayed (replay p (first-book p) (entries (a .log .now) (a .times .now))) =
+    λ p f. stopped p (a .carts) (a .firsts .now) (a .log .now) (a .times .now) f (l .counts) (l .clock) (l .i) (l .inv .2 p f) (g .before .before .loop-test .taken) _ (g .get64 .result) refl
+    (g .get64 .ensures) (t .take-report .result) (t .take-report .ensures .0) (c .if1 .taken) in
+    (none-there, λ p f b e. absurd (Option·none-ne-some _ (sym (replayed-none _ (none-there p f)) ∙ e)))
 
 add-i : tie.Need-add-i Inv-loop μ-loop
 add-i c = omega (arith, c .before .before .before .before .before .before .before .loop-test .taken)
@@ -83,10 +89,12 @@ same-length-2 : tie.Need-same-length-2 Inv-loop μ-loop
 same-length-2 c = c .before .loop .inv .1 ∙ sym (start-length (c .before .before .before .before .before .before))
 
 returns-2 : tie.Need-returns-2 Inv-loop μ-loop
-returns-2 c = λ p f.
+returns-2 c =
     let l = c .before .loop in
-    let s = c .before .before .before .before .before .before in
-    before-last p (s .args .carts) (s .args .log .now) (s .args .times .now) (l .counts) (l .clock) (l .i) (l .inv .2 p f) (c .loop-test .left)
+    let s = c .before .before .before .before .before .before in (
+      λ p f. before-last p (s .args .carts) (s .args .log .now) (s .args .times .now) (l .counts) (l .clock) (l .i) (l .inv .2 p f) (c .loop-test .left),
+      λ p f b e. counts-left p (s .args .carts) (s .args .log .now) (s .args .times .now) (l .counts) (l .clock) (l .i) (l .inv .2 p f) (c .loop-test .left) b e,
+    )
 
 pub replay-spec : {M : Type 1} → statement M
 replay-spec =

@@ -4,7 +4,7 @@ use native.Mathlib.Omega.{arith}
 use mathlib.Core.Path.{refl}
 use lib.ListN.{getD}
 use borrow.Author.Needs.{needs}
-use Rattle.book.proofs.Replays.{has-one, no-next, too-early, too-late, fits}
+use Rattle.book.proofs.Replays.{has-one, no-next, not-timely, fits}
 use Rattle.book.proofs.replay.take_report.Statement.{statement}
 use Rattle.book.proofs.replay.take_report.Tie as tie
 
@@ -20,26 +20,22 @@ returns c =
     let h = c .before .has-next in
     (no-next (a .firsts .now) (a .carts) (a .counts .now) (a .c) (a .clock) (a .t) (h .result) (h .ensures) (c .if1 .taken), refl)
 
+in-time-requires : tie.Need-in-time-requires
+in-time-requires c κs = search needs
+
 same-length-2 : tie.Need-same-length-2
 same-length-2 c = search needs
 
 returns-2 : tie.Need-returns-2
 returns-2 c =
-    let a = c .before .before .before .before .before .before .args in
-    let h = c .before .before .has-next in
-    (too-early (a .firsts .now) (a .carts) (a .counts .now) (a .c) (a .clock) (a .t) (h .result) (h .ensures) (c .if2 .taken), refl)
-
-same-length-3 : tie.Need-same-length-3
-same-length-3 c = search needs
-
-returns-3 : tie.Need-returns-3
-returns-3 c =
-    let a = c .before .before .before .before .before .before .before .args in
-    let h = c .before .before .before .has-next in
-    (too-late (a .firsts .now) (a .carts) (a .counts .now) (a .c) (a .clock) (a .t) (h .result) (h .ensures) (c .if3 .taken), refl)
+    let t = c .before in
+    let n = t .before in
+    let a = n .before .before .before .before .before .args in
+    let h = n .before .has-next in
+    (not-timely (a .firsts .now) (a .carts) (a .counts .now) (a .c) (a .clock) (a .t) (h .result) (h .ensures) (n .if1 .left) (t .in-time .result) (t .in-time .ensures) (c .if2 .taken), refl)
 
 -- the cart has a point to pass
-one-there : (c : tie.Else3)
+one-there : (c : tie.Else2)
     → (let a = c .before .before .before .before .before .before .before .args in
     (1 ≤ a .c) × (a .c ≤ a .carts) × (getD (a .firsts .now) (a .c - 1) 0 + getD (a .counts .now) (a .c - 1) 0 < getD (a .firsts .now) (a .c) 0))
 one-there c =
@@ -65,14 +61,17 @@ add-counts c =
 slice-write-counts : tie.Need-slice-write-counts
 slice-write-counts c = let (l, m, n) = one-there (c .before) in omega (arith, l, m)
 
-same-length-4 : tie.Need-same-length-4
-same-length-4 c = search needs
+same-length-3 : tie.Need-same-length-3
+same-length-3 c = search needs
 
-returns-4 : tie.Need-returns-4
-returns-4 c =
-    let a = c .before .before .before .before .before .before .before .before .args in
-    let h = c .before .before .before .before .has-next in
-    (fits (a .firsts .now) (a .carts) (a .counts .now) (a .c) (a .clock) (a .t) (h .result) (h .ensures) (c .before .before .before .if1 .left) (c .before .before .if2 .left) (c .before .if3 .left), refl)
+returns-3 : tie.Need-returns-3
+returns-3 c =
+    let e = c .before in
+    let t = e .before in
+    let n = t .before in
+    let a = n .before .before .before .before .before .args in
+    let h = n .before .has-next in
+    (fits (a .firsts .now) (a .carts) (a .counts .now) (a .c) (a .clock) (a .t) (h .result) (h .ensures) (n .if1 .left) (t .in-time .result) (t .in-time .ensures) (e .if2 .left), refl)
 
 pub take-report-spec : {M : Type 1} → statement M
 take-report-spec =
@@ -81,14 +80,13 @@ take-report-spec =
     has-next-requires
     same-length
     returns
+    in-time-requires
     same-length-2
     returns-2
-    same-length-3
-    returns-3
     sub-counts
     mul-counts
     slice-read-counts
     add-counts
     slice-write-counts
-    same-length-4
-    returns-4)
+    same-length-3
+    returns-3)
