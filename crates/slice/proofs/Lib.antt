@@ -1,3 +1,4 @@
 pub mod Slice
 pub mod Laid
 pub mod Holds
+pub mod Entries

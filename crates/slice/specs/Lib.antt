@@ -1,3 +1,4 @@
 pub mod PlanSlice
 pub mod Holding
 pub mod Texts
+pub mod Entry

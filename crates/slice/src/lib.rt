@@ -12,6 +12,8 @@ ghost use Rattle.limits.specs.Limits.{paths-within};
 ghost use Rattle.book.specs.Log.{log-book, is-book};
 ghost use Rattle.slice.specs.PlanSlice.{tables-in, log-in, nothing-else, Held, held};
 ghost use Rattle.slice.specs.Holding.{holding, plan-into};
+ghost use Rattle.slice.specs.Entry.{with-entry};
+ghost use Rattle.schedule.specs.Book.{_at_};
 
 // What is said of a plan slice: how many roads, carts, steps and reports the plan that it holds has.
 pub enum Holding {
@@ -47,6 +49,21 @@ pub fn part(s: &[u8], from: usize, size: usize) -> &[u8]
         return &s[from..];
     }
     &s[from..from + size]
+}
+
+// Writes a report as the n-th entry of a slice's log, where there is room for one: its cart, one byte, and its time, eight bytes. The times
+// begin at the 25,088th number of eight bytes.
+pub fn put_entry(plan: &mut [u8], n: usize, cart: u8, time: u64)
+    ensures { λ _. ⌜ now (plan .exit) ≡ with-entry (now (plan .entry)) n (cart at time) ⌝ }
+{
+    if plan.len() < 233_472 {
+        return;
+    }
+    if 4096 <= n {
+        return;
+    }
+    plan[196_608 + n] = cart;
+    words::put64(plan, 25_088 + n, time);
 }
 
 // Whether paths in an array keep the limits and the n reports of a slice's log are accepted in their turn.

@@ -143,7 +143,7 @@ written-more a vs s h =
     ∙ ap (λ (x : List ℕ). a ++ vs ++ x) back
 
 -- one number more at the end
-words-behind : (k : ℕ) (ns : List ℕ) (v : ℕ) → words k (ns ++ (v ∷ [])) ≡ words k ns ++ word k v
+pub words-behind : (k : ℕ) (ns : List ℕ) (v : ℕ) → words k (ns ++ (v ∷ [])) ≡ words k ns ++ word k v
 unfolding words
 words-behind k [] v = append-nil (word k v)
 words-behind k (n ∷ ns) v = ap (λ (x : List ℕ). word k n ++ x) (words-behind k ns v) ∙ sym (append-assoc (word k n) (words k ns) (word k v))
