@@ -85,11 +85,16 @@ module _ (p : Plan) (h : length (p .carts) ≡ length (p .paths)) where
       ap (λ (x : List ℕ). getD x (c - 1) 0)
       (same-said (λ (r : Route). length (route-points r)) (λ c d j e vs. refl) (p .carts) (q .carts) (p .paths) 1 1 as-many)
 
-  -- so the same reports are accepted
+  -- so the same carts have a point to pass
+  pub next-by-paths : (b : Book) (r : Report) → has-next p b r ≡ has-next q b r
+  unfolding has-next is-there
+  next-by-paths b r =
+      ap₂ {C = Bool} (λ (n m : ℕ). leb 1 (r .cart) && leb (r .cart) n && ltb (length (passed-by b (r .cart))) m) as-many (points-by-paths (r .cart))
+
+  -- and the same reports are accepted
   acceptable-by-paths : (b : Book) (r : Report) → acceptable p b r ≡ acceptable q b r
-  unfolding acceptable has-next is-there
-  acceptable-by-paths b r =
-      ap₂ {C = Bool} (λ (n m : ℕ). leb 1 (r .cart) && leb (r .cart) n && ltb (length (passed-by b (r .cart))) m && in-time b r) as-many (points-by-paths (r .cart))
+  unfolding acceptable
+  acceptable-by-paths b r = ap (λ (t : Bool). t && in-time b r) (next-by-paths b r)
 
   -- and a log leads to the same book
   pub replay-by-paths : (b : Book) (log : List Report) → replay p b log ≡ replay q b log

@@ -1,5 +1,4 @@
 -- The answers' numbers, the needs, and calls that are turned down before the tables are read. Assumes nothing.
-use Prim.Native.Nat.{ℕ}
 use mathlib.Core.Path.{_≡_, refl}
 use mathlib.Core.List.{[], _∷_, map}
 use mathlib.Core.Option.{none, some}

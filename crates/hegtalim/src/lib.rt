@@ -1,8 +1,10 @@
 // The calls on a plan. The definitions of what they answer and leave are in specs/.
+use book::Checked;
 use floor::Reason;
 use floor::Refusal;
 use floor::Table;
 use passes::Solved;
+use slice::Holding;
 use tables::Reading;
 use timing::Bounding;
 ghost use mathlib.Core.Path.{_≡_};
@@ -13,12 +15,16 @@ ghost use Rattle.words.specs.Words.{written, padded};
 ghost use Rattle.floor.specs.Refusal.{accepted};
 ghost use Rattle.floor.specs.Plan.{Plan};
 ghost use Rattle.floor.specs.Tables.{read-tables};
-ghost use Rattle.tables.specs.Arrays.{path-cells};
+ghost use Rattle.tables.specs.Arrays.{path-cells, paths-in};
 ghost use Rattle.tables.specs.Reading.{read-answer};
 ghost use Rattle.network.specs.Judge.{judge};
-ghost use Rattle.hegtalim.specs.Answers.{loaded-answer, timed-answer, c-number};
+ghost use Rattle.hegtalim.specs.Answers.{loaded-answer, reported-answer, timed-answer, c-number};
 ghost use Rattle.slice.specs.PlanSlice.{plan-slice};
-ghost use Rattle.hegtalim.specs.Outcomes.{load-judged, load, Timetabled, TimetabledNumber};
+ghost use Rattle.slice.specs.HeldPlan.{log-of};
+ghost use Rattle.schedule.specs.Book.{_at_};
+ghost use Rattle.limits.specs.Limits.{of-paths};
+ghost use Rattle.book.specs.Log.{checked};
+ghost use Rattle.hegtalim.specs.Outcomes.{load-judged, load, report, Timetabled, TimetabledNumber};
 
 // What a load answers; specs/Answers.antt gives each case of each answer its number and values.
 pub enum Loaded {
@@ -135,6 +141,54 @@ pub fn load(roads: &[u8], carts: &[u8], paths: &[u8], plan: &mut [u8]) -> Loaded
     }
 }
 
+// What the book of the n reports in a slice's log says of a further one, over paths in an array.
+fn check_held(
+    plan: &[u8],
+    n: usize,
+    cells: &[u32],
+    carts: usize,
+    steps: usize,
+    cart: u64,
+    time: u64,
+) -> Checked
+    ensures { λ r. ⌜ r ≡ checked (of-paths (paths-in carts steps (now (cells .entry)))) (log-of (now (plan .entry)) n (now (cells .entry)) carts steps) (cart at time) ⌝ }
+{
+    let log = slice::part(plan, 196_608, n);
+    let times = slice::part(plan, 200_704, plan.len());
+    book::check_report(cells, carts, steps, log, times, cart, time)
+}
+
+// Takes a report of a cart's next point, passed at this time: one entry more in the log of the plan that is held, or the refusal.
+pub fn report(plan: &mut [u8], cart: u64, time: u64) -> Reported
+    ensures answer { λ r. ⌜ r ≡ report (now (plan .entry)) (cart at time) .answer ⌝ }
+    ensures left { λ _. ⌜ now (plan .exit) ≡ report (now (plan .entry)) (cart at time) .plan ⌝ }
+{
+    let mut edges = [0u32; 4096];
+    let mut speeds = [0u32; 128];
+    let mut cells = [0u32; 8192];
+    let x = slice::read_plan(plan, &mut edges, &mut speeds, &mut cells);
+    match x {
+        Holding::TooShort => Reported::TooShort,
+        Holding::NoPlan => Reported::NoPlan,
+        Holding::Held {
+            roads: _,
+            carts: m,
+            steps: w,
+            reports: n,
+        } => {
+            let y = check_held(plan, n, &cells, m, w, cart, time);
+            if !y.next {
+                return Reported::NoPoint;
+            }
+            if !y.timely {
+                return Reported::BadTime;
+            }
+            slice::put_entry(plan, n, (cart % 256) as u8, time);
+            Reported::Taken
+        }
+    }
+}
+
 // The times of the plan that a slice holds, or a chain.
 fn time_plan(plan: &[u8], times: &mut [u8], numbers: &mut [u8], directions: &mut [u8]) -> Timed
     requires { ⌜ (233472 ≤ length (now plan)) × (32768 ≤ length (now times)) × (8192 ≤ length (now numbers)) × (4096 ≤ length (now directions)) ⌝ }
@@ -211,6 +265,29 @@ pub extern "C" fn hegtalim_load(roads: &[u8], carts: &[u8], paths: &[u8], plan: 
 {
     let x = load(roads, carts, paths, plan);
     loaded_number(x)
+}
+
+// The one number that a C function returns for a report's answer.
+fn reported_number(x: Reported) -> u64
+    ensures { λ r. ⌜ r ≡ c-number (reported-answer x) ⌝ }
+{
+    match x {
+        Reported::Taken => 0,
+        Reported::TooShort => 14,
+        Reported::NoPlan => 10,
+        Reported::NoPoint => 11,
+        Reported::BadTime => 12,
+    }
+}
+
+// `report` for a program in C.
+#[no_mangle]
+pub extern "C" fn hegtalim_report(plan: &mut [u8], cart: u64, time: u64) -> u64
+    ensures answer { λ r. ⌜ r ≡ c-number (reported-answer (report (now (plan .entry)) (cart at time) .answer)) ⌝ }
+    ensures left { λ _. ⌜ now (plan .exit) ≡ report (now (plan .entry)) (cart at time) .plan ⌝ }
+{
+    let x = report(plan, cart, time);
+    reported_number(x)
 }
 
 // The one number that a C function returns for a timetable's answer.

@@ -1,9 +1,9 @@
 -- An entry more in the log of a plan slice. Assumes nothing.
-use Prim.Native.Nat.{ℕ, zero, suc, _+_, _*_, _-_, _≤_, _<_}
+use Prim.Native.Nat.{ℕ, suc, _+_, _*_, _-_, _≤_, _<_}
 use native.Mathlib.Omega.{arith}
 use mathlib.Core.Path.{_≡_, refl, ap, ap₂, sym, _∙_}
-use mathlib.Core.Bool.{Bool, true, false, _&&_, cond, and-false}
-use mathlib.Core.List.{List, [], _∷_, _++_, map, map-append}
+use mathlib.Core.Bool.{Bool, true, _&&_, cond, and-false}
+use mathlib.Core.List.{List, [], _∷_, _++_, map-append}
 use lib.Dec.{leb, ltb}
 use lib.ListN.{length, set, length-append, length-map, length-set, replicate}
 use lib.Seq.{sets, set-append-left}

@@ -2,3 +2,4 @@ pub mod Slice
 pub mod Laid
 pub mod Holds
 pub mod Entries
+pub mod HeldPlan

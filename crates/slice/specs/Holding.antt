@@ -9,7 +9,6 @@ use lib.ListN.{length}
 use Rattle.floor.specs.Paths.{steps}
 use Rattle.floor.specs.Tables.{Tables}
 use Rattle.tables.specs.Reading.{Arrays, room, zeros, numbers-of}
-use Rattle.schedule.specs.Book.{Report}
 use Rattle.slice.specs.declared.Holding.{Holding}
 use Rattle.slice.specs.declared.Layout.{Layout}
 use Rattle.slice.specs.PlanSlice.{plan-need, tables-in, log-in, Held, nothing-else, held}

@@ -1,22 +1,17 @@
 -- What the writer of a held plan's bounds answers and leaves, by what the reader of the slice says. Assumes nothing.
 use Prim.Native.Nat.{ℕ, _≤_, _<_}
-use native.Mathlib.Omega.{arith}
-use mathlib.Core.Path.{_≡_, refl, ap, sym, _∙_, subst}
+use mathlib.Core.Path.{_≡_, refl, ap, sym, subst}
 use mathlib.Core.Bool.{Bool, true, false, _&&_}
 use mathlib.Core.List.{List, flatMap}
-use mathlib.Core.Option.{Option, none, some}
+use mathlib.Core.Option.{Option, none}
 use lib.Dec.{leb}
-use lib.ListN.{length, replicate}
+use lib.ListN.{length}
 use borrow.Author.Tests.{le-leb, lt-leb}
 use Rattle.words.specs.Words.{written}
-use Rattle.tables.specs.Reading.{Arrays, room, numbers-of}
 use Rattle.network.specs.BoundArrays.{bound-ends, bound-range}
-use Rattle.slice.specs.declared.Holding.{Holding}
 use Rattle.slice.specs.PlanSlice.{plan-need, Held, held}
-use Rattle.slice.specs.Holding.{holding, arrays-held, Outcome, read-slice, plan-into}
-use Rattle.slice.proofs.Holds.{nothing-told}
 use Rattle.timing.specs.declared.Bounding.{Bounding}
-use Rattle.timing.specs.Bounding.{Holds, bounding-fits, bounding, held-bounds, bounding-answer, bounding-written}
+use Rattle.timing.specs.Bounding.{bounding-fits, bounding, held-bounds, bounding-answer, bounding-written}
 use Rattle.timing.proofs.Written.{Wrote}
 
 -- ---- lengths
@@ -64,64 +59,3 @@ module _ (s e r : List ℕ) where
 pub none-held : (o : Option Held) (e r : List ℕ) → o ≡ none → Wrote o Bounding.NoPlan e r e r
 unfolding bounding held-bounds written flatMap
 none-held o e r q = subst (λ (x : Option Held). Wrote x Bounding.NoPlan e r e r) (sym q) (refl, (refl, refl))
-
--- which case it is
-abbrev case-of : Holding → ℕ
-case-of Holding.TooShort = 0
-case-of Holding.NoPlan = 1
-case-of (Holding.Held a c w n) = 2
-
-module _ (s : List ℕ) (long : plan-need ≤ length s) where
-  abbrev blank : Arrays
-  blank = record { roads = replicate 4096 0; carts = replicate 128 0; cells = replicate 8192 0 }
-
-  -- the slice is long enough, and so are the arrays
-  into-is : plan-into s (replicate 4096 0) (replicate 128 0) (replicate 8192 0) ≡ record { answer = holding (held s); arrays = arrays-held blank (held s) }
-  unfolding plan-into read-slice room
-  into-is =
-      ap (λ (b : Bool). elim b as (λ _. Outcome) [ false ↦ record { answer = Holding.TooShort; arrays = blank } | true ↦ record { answer = holding (held s); arrays = arrays-held blank (held s) } ])
-      (let fits : (leb plan-need (length s) && room blank) ≡ true = ap (λ (b : Bool). b && room blank) (le-leb plan-need (length s) long) in fits)
-
-  module _ (x : Holding) (is : x ≡ plan-into s (replicate 4096 0) (replicate 128 0) (replicate 8192 0) .answer) where
-    said : x ≡ holding (held s)
-    said = is ∙ ap (λ (o : Outcome). o .answer) into-is
-
-    -- never that something is too short
-    pub never-short : ¬ (x ≡ Holding.TooShort)
-    unfolding holding
-    never-short q = by (held s) (sym q ∙ said)
-      where
-        by : (o : Option Held) → ¬ (Holding.TooShort ≡ holding o)
-        by none z = let n : _≡_ {A = ℕ} 0 1 = ap case-of z in omega arith
-        by (some h) z = let n : _≡_ {A = ℕ} 0 2 = ap case-of z in omega arith
-
-    -- no plan
-    pub no-plan : x ≡ Holding.NoPlan → held s ≡ none
-    no-plan q = nothing-told (held s) (sym q ∙ said)
-
-    -- a plan, and its numbers in the arrays
-    pub held-there : (edges speeds cells : List ℕ)
-        → edges ≡ plan-into s (replicate 4096 0) (replicate 128 0) (replicate 8192 0) .arrays .roads
-        → speeds ≡ plan-into s (replicate 4096 0) (replicate 128 0) (replicate 8192 0) .arrays .carts
-        → cells ≡ plan-into s (replicate 4096 0) (replicate 128 0) (replicate 8192 0) .arrays .cells
-        → (roads carts w reports : ℕ) → x ≡ Holding.Held roads carts w reports → Holds s edges speeds cells roads carts w reports
-    unfolding holding arrays-held numbers-of
-    held-there edges speeds cells a c k roads carts w reports q = by (held s) refl (sym q ∙ said)
-      where
-        by : (o : Option Held) → held s ≡ o → Holding.Held roads carts w reports ≡ holding o → Holds s edges speeds cells roads carts w reports
-        by none e z = absurd (let n : _≡_ {A = ℕ} 2 1 = ap case-of z in omega arith)
-        by (some h) e z =
-            let left : plan-into s (replicate 4096 0) (replicate 128 0) (replicate 8192 0) .arrays ≡ numbers-of blank (h .plan) =
-            ap (λ (o : Outcome). o .arrays) into-is ∙ ap (arrays-held blank) e in
-            record {
-              plan-held = h;
-              of-slice = e;
-              long = long;
-              roads-are = ap (λ (y : Holding). elim y [ Holding.TooShort ↦ 0 | Holding.NoPlan ↦ 0 | Holding.Held a c w n ↦ a ]) z;
-              carts-are = ap (λ (y : Holding). elim y [ Holding.TooShort ↦ 0 | Holding.NoPlan ↦ 0 | Holding.Held a c w n ↦ c ]) z;
-              steps-are = ap (λ (y : Holding). elim y [ Holding.TooShort ↦ 0 | Holding.NoPlan ↦ 0 | Holding.Held a c w n ↦ w ]) z;
-              reports-are = ap (λ (y : Holding). elim y [ Holding.TooShort ↦ 0 | Holding.NoPlan ↦ 0 | Holding.Held a c w n ↦ n ]) z;
-              edges-are = a ∙ ap (λ (y : Arrays). y .roads) left;
-              speeds-are = c ∙ ap (λ (y : Arrays). y .carts) left;
-              cells-are = k ∙ ap (λ (y : Arrays). y .cells) left;
-            }

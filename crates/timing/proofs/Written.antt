@@ -2,140 +2,102 @@
 use Prim.Native.Nat.{ℕ, _+_, _*_, _-_, _≤_, _<_}
 use native.Mathlib.Omega.{arith}
 use mathlib.Core.Path.{_≡_, refl, ap, ap₂, sym, _∙_, subst}
-use mathlib.Core.Bool.{Bool, true, false, _&&_, cond}
+use mathlib.Core.Bool.{Bool, true, _&&_, cond}
 use mathlib.Core.List.{List, _++_, flatMap, Memᴰ·append-right}
-use mathlib.Core.Option.{Option, none, some, Option·none-ne-some, Option·some-injective}
+use mathlib.Core.Option.{Option, none, some}
 use lib.Dec.{leb, lit≤}
 use lib.ListN.{length, take, drop, length-append, length-drop}
-use lib.Seq.{sets, take-take}
+use lib.Seq.{sets}
 use borrow.Author.Tests.{le-leb}
 use borrow.Rule.Slice.PartMut.{midOf, putMid}
 use Rattle.words.specs.Words.{written}
 use Rattle.words.proofs.Padding.{padded-length}
 use Rattle.words.proofs.Storing.{written-more}
 use Rattle.csv.proofs.Reading.{rest-is}
-use Rattle.floor.specs.Refusal.{Judged, refused, accepted}
 use Rattle.floor.specs.Plan.{Road, Cart, Plan}
 use Rattle.floor.specs.Paths.{steps}
-use Rattle.floor.specs.Tables.{Tables, read-tables}
-use Rattle.floor.proofs.Accepted.{Sound, accepted-sound, Even, accepted-even}
+use Rattle.floor.specs.Tables.{Tables}
 use Rattle.tables.specs.Arrays.{road-numbers, cart-numbers, roads-in, carts-in, paths-in}
 use Rattle.tables.proofs.RoadRecords.{roads-held, road-four-numbers}
 use Rattle.tables.proofs.CartRecords.{carts-held, cart-two-numbers}
-use Rattle.tables.proofs.PathTurns.{even-held}
 use Rattle.tables.proofs.TablesRead.{plan-roads}
 use Rattle.tables.proofs.Turns.{flat-length}
 use Rattle.network.specs.Events.{event-count}
 use Rattle.network.specs.Bounds.{Bound, bounds}
 use Rattle.network.specs.BoundArrays.{bound-ends, bound-range}
-use Rattle.network.specs.Judge.{judge}
 use Rattle.network.proofs.Judged.{judged}
 use Rattle.network.proofs.Routes.{event-count-is}
 use Rattle.network.proofs.BoundStores.{Pairs, by-ends, by-range, flat-append, pairs-length}
-use Rattle.limits.specs.Limits.{of-paths, limits-kept, paths-within}
+use Rattle.limits.specs.Limits.{of-paths, paths-within}
 use Rattle.limits.proofs.Kept.{paths-within-is}
 use Rattle.bounds.specs.Network.{plan-in, network-fits, plan-fitting, network-answer, network-bounds}
 use Rattle.bounds.proofs.Stores.{part-stored}
-use Rattle.schedule.specs.Book.{Book, first-book, replay}
+use Rattle.schedule.specs.Book.{Book}
 use Rattle.book.specs.declared.Added.{Added}
-use Rattle.book.specs.Log.{entries, log-book, book-fitting, added-of, added-answer}
-use Rattle.book.proofs.ByPaths.{some-step, added-by-paths, log-book-is}
+use Rattle.book.specs.Log.{log-book, book-fitting, added-of, added-answer}
 use Rattle.schedule.specs.Added.{added-bounds, all-bounds}
 use Rattle.schedule.proofs.Logged.{Logged, logged-kept, bound-ends as ends-below}
 use Rattle.schedule.proofs.Numbers.{added-few}
-use Rattle.slice.specs.PlanSlice.{until-zero, tables-in, log-in, Held, nothing-else, held-by, held}
+use Rattle.slice.specs.PlanSlice.{Held, held}
+use Rattle.slice.specs.HeldPlan.{log-of, Holds}
 use Rattle.slice.proofs.Slice.{held-says}
-use Rattle.slice.proofs.Laid.{text-front, rest-of, part-short, entries-count}
+use Rattle.slice.proofs.Laid.{rest-of}
+use Rattle.slice.proofs.HeldPlan.{p, b, ts, accepted-there, read-there, sound, paths-there, some-steps, limits-there, book-there, added-there}
 use Rattle.bounds.specs.declared.Network.{Network}
 use Rattle.timing.specs.declared.Bounding.{Bounding}
-use Rattle.timing.specs.Bounding.{log-of, Holds, bounding, held-bounds}
+use Rattle.timing.specs.Bounding.{bounding, held-bounds}
 
 -- ---- the plan in arrays
 
 module _ (s edges speeds cells : List ℕ) (roads carts w reports : ℕ) (h : Holds s edges speeds cells roads carts w reports) where
-  abbrev pub p : Plan
-  p = h .plan-held .plan
+  abbrev its : Plan
+  its = p s edges speeds cells roads carts w reports h
 
-  abbrev pub b : Book
-  b = h .plan-held .book
-
-  abbrev pub ts : Tables
-  ts = h .plan-held .tables
-
-  -- its tables are accepted
-  pub accepted-there : judge ts ≡ accepted p
-  accepted-there = held-says s (h .plan-held) (h .of-slice) .1
-
-  read-there : read-tables ts ≡ accepted p
-  read-there = judged ts p accepted-there .0
-
-  sound : Sound p
-  sound = accepted-sound ts p read-there
-
-  even : Even (p .paths)
-  even = accepted-even ts p read-there
-
-  -- the paths in the array are the plan's
-  pub paths-there : paths-in carts w cells ≡ p .paths
-  paths-there =
-      ap (λ (n : ℕ). paths-in n w cells) (h .carts-are ∙ sym (sound .path-each))
-      ∙ ap (λ (n : ℕ). paths-in (length (p .paths)) n cells) (h .steps-are)
-      ∙ ap (paths-in (length (p .paths)) (steps (p .paths))) (h .cells-are)
-      ∙ even-held 8192 (p .paths) even
+  abbrev its-tables : Tables
+  its-tables = ts s edges speeds cells roads carts w reports h
 
   -- so the plan in the arrays is that which is held
-  plan-there : plan-in roads carts w (record { edges = edges; speeds = speeds; cells = cells }) ≡ p
+  plan-there : plan-in roads carts w (record { edges = edges; speeds = speeds; cells = cells }) ≡ its
   unfolding plan-in
   plan-there =
-      let r : roads-in roads edges ≡ p .roads =
-      ap (λ (n : ℕ). roads-in n edges) (h .roads-are) ∙ ap (roads-in (length (p .roads))) (h .edges-are) ∙ roads-held 4096 (p .roads) in
-      let c : carts-in carts speeds ≡ p .carts =
-      ap (λ (n : ℕ). carts-in n speeds) (h .carts-are) ∙ ap (carts-in (length (p .carts))) (h .speeds-are) ∙ carts-held 128 (p .carts) (sound .sound-carts) in
+      let r : roads-in roads edges ≡ its .roads =
+      ap (λ (n : ℕ). roads-in n edges) (h .roads-are) ∙ ap (roads-in (length (its .roads))) (h .edges-are) ∙ roads-held 4096 (its .roads) in
+      let c : carts-in carts speeds ≡ its .carts =
+      ap (λ (n : ℕ). carts-in n speeds) (h .carts-are) ∙ ap (carts-in (length (its .carts))) (h .speeds-are) ∙ carts-held 128 (its .carts) (sound s edges speeds cells roads carts w reports h .sound-carts) in
       ap (λ (x : List Road). record { roads = x; carts = carts-in carts speeds; paths = paths-in carts w cells }) r
-      ∙ ap₂ (λ (x : List Cart) (y : List (List ℕ)). record { roads = p .roads; carts = x; paths = y }) c paths-there
-
-  -- it has steps
-  pub some-steps : 1 ≤ w
-  some-steps = omega (arith, some-step p sound, h .steps-are)
-
-  -- it keeps the limits
-  limits-there : limits-kept p ≡ true
-  unfolding limits-kept
-  limits-there =
-      let (r, events, few) = judged ts p accepted-there in
-      ap (λ (x : Bool). x && leb (length (bounds p)) 8192) (le-leb (event-count p) 4096 events) ∙ le-leb (length (bounds p)) 8192 few
+      ∙ ap₂ (λ (x : List Cart) (y : List (List ℕ)). record { roads = its .roads; carts = x; paths = y }) c (paths-there s edges speeds cells roads carts w reports h)
 
   -- so its paths in the array do
   within-there : paths-within carts w cells ≡ true
   within-there =
       ap (λ (n : ℕ). paths-within n w cells) (h .carts-are)
-      ∙ ap (λ (n : ℕ). paths-within (length (p .carts)) n cells) (h .steps-are)
-      ∙ ap (paths-within (length (p .carts)) (steps (p .paths))) (h .cells-are)
-      ∙ paths-within-is ts p read-there 8192 (lit≤ tt)
-      ∙ limits-there
+      ∙ ap (λ (n : ℕ). paths-within (length (its .carts)) n cells) (h .steps-are)
+      ∙ ap (paths-within (length (its .carts)) (steps (its .paths))) (h .cells-are)
+      ∙ paths-within-is its-tables its (read-there s edges speeds cells roads carts w reports h) 8192 (lit≤ tt)
+      ∙ limits-there s edges speeds cells roads carts w reports h
 
   -- the arrays of roads and carts are long enough
   edges-long : 4 * roads ≤ length edges
   edges-long =
-      let few : length (p .roads) ≤ 1024 = plan-roads ts p read-there in
-      let count : length (flatMap road-numbers (p .roads)) ≡ 4 * length (p .roads) = flat-length road-numbers 4 road-four-numbers (p .roads) in
-      let long : length edges ≡ 4096 = ap length (h .edges-are) ∙ padded-length 4096 (flatMap road-numbers (p .roads)) (omega arith) in
+      let few : length (its .roads) ≤ 1024 = plan-roads its-tables its (read-there s edges speeds cells roads carts w reports h) in
+      let count : length (flatMap road-numbers (its .roads)) ≡ 4 * length (its .roads) = flat-length road-numbers 4 road-four-numbers (its .roads) in
+      let long : length edges ≡ 4096 = ap length (h .edges-are) ∙ padded-length 4096 (flatMap road-numbers (its .roads)) (omega arith) in
       omega (arith, h .roads-are)
 
   speeds-long : 2 * carts ≤ length speeds
   speeds-long =
-      let few : length (p .carts) ≤ 64 = sound .few-carts in
-      let count : length (flatMap cart-numbers (p .carts)) ≡ 2 * length (p .carts) = flat-length cart-numbers 2 cart-two-numbers (p .carts) in
-      let long : length speeds ≡ 128 = ap length (h .speeds-are) ∙ padded-length 128 (flatMap cart-numbers (p .carts)) (omega arith) in
+      let few : length (its .carts) ≤ 64 = sound s edges speeds cells roads carts w reports h .few-carts in
+      let count : length (flatMap cart-numbers (its .carts)) ≡ 2 * length (its .carts) = flat-length cart-numbers 2 cart-two-numbers (its .carts) in
+      let long : length speeds ≡ 128 = ap length (h .speeds-are) ∙ padded-length 128 (flatMap cart-numbers (its .carts)) (omega arith) in
       omega (arith, h .carts-are)
 
   -- and fits
-  pub plan-fits : (e r : ℕ) → 24_576 ≤ e → 24_576 ≤ r → plan-fitting roads carts w (record { edges = edges; speeds = speeds; cells = cells }) e r ≡ some p
+  pub plan-fits : (e r : ℕ) → 24_576 ≤ e → 24_576 ≤ r → plan-fitting roads carts w (record { edges = edges; speeds = speeds; cells = cells }) e r ≡ some its
   unfolding plan-fitting network-fits
   plan-fits e r he hr =
-      let few : roads ≤ 1024 = omega (arith, h .roads-are, plan-roads ts p read-there) in
+      let few : roads ≤ 1024 = omega (arith, h .roads-are, plan-roads its-tables its (read-there s edges speeds cells roads carts w reports h)) in
       let fit : network-fits roads carts w (record { edges = edges; speeds = speeds; cells = cells }) e r ≡ true =
-      simp (le-leb roads 1024 few, le-leb (4 * roads) (length edges) edges-long, le-leb (2 * carts) (length speeds) speeds-long, le-leb 1 w some-steps, within-there, le-leb 16_384 e (omega arith), le-leb 16_384 r (omega arith)) in
+      simp (le-leb roads 1024 few, le-leb (4 * roads) (length edges) edges-long, le-leb (2 * carts) (length speeds) speeds-long, le-leb 1 w (some-steps s edges speeds cells roads carts w reports h), within-there, le-leb 16_384 e (omega arith), le-leb 16_384 r (omega arith)) in
       ap (λ (x : Bool). cond x (some (plan-in roads carts w (record { edges = edges; speeds = speeds; cells = cells }))) none) fit ∙ ap some plan-there
 
 -- ---- one behind the other
@@ -207,69 +169,6 @@ module _ (s cells : List ℕ) (n carts w k : ℕ) (e r : List ℕ) (few : k ≤ 
           part-written bound-range (added-of p (log-of s n cells carts w)) r v k (omega arith) (z .1 .1 ∙ ap (λ (o : Option Book). written (flatMap bound-range (added-of p o)) part-r) log-is) lv,
         ),
       )
-
--- ---- the log
-
--- a held plan's log is the one in the slice
-held-log : (s : List ℕ) (h : Held) → held s ≡ some h → h .log ≡ log-in s
-unfolding held held-by
-held-log s h e = by (judge (tables-in s)) e
-  where
-    at : (p : Plan) (o : Option Book) (t : Bool)
-        → elim o [ none ↦ none | some b ↦ elim t [ true ↦ some (record { tables = tables-in s; log = log-in s; plan = p; book = b }) | false ↦ none ] ] ≡ some h
-        → h .log ≡ log-in s
-    at p none t q = absurd (Option·none-ne-some _ q)
-    at p (some b) true q = ap (λ (x : Held). x .log) (sym (Option·some-injective _ _ q))
-    at p (some b) false q = absurd (Option·none-ne-some _ q)
-
-    by : (j : Judged Plan) → held-by s (tables-in s) (log-in s) j ≡ some h → h .log ≡ log-in s
-    by (refused r) q = absurd (Option·none-ne-some _ q)
-    by (accepted p) q = at p (replay p (first-book p) (log-in s)) (nothing-else s (tables-in s) (log-in s)) q
-
-module _ (s edges speeds cells : List ℕ) (roads carts w reports : ℕ) (h : Holds s edges speeds cells roads carts w reports) where
-  abbrev its : Plan
-  its = p s edges speeds cells roads carts w reports h
-
-  abbrev its-book : Book
-  its-book = b s edges speeds cells roads carts w reports h
-
-  -- the reports in the slice are the log's
-  log-there : entries (take reports (drop 196_608 s)) (drop 200_704 s) ≡ h .plan-held .log
-  unfolding log-in
-  log-there =
-      let part : List ℕ = take 4096 (drop 196_608 s) in
-      let same : h .plan-held .log ≡ log-in s = held-log s (h .plan-held) (h .of-slice) in
-      let count : reports ≡ length (until-zero part) = h .reports-are ∙ ap length same ∙ entries-count (until-zero part) (drop 200_704 s) in
-      let few : length (until-zero part) ≤ 4096 = part-short 4096 (drop 196_608 s) in
-      ap (λ (x : List ℕ). entries x (drop 200_704 s))
-      (ap (λ (n : ℕ). take n (drop 196_608 s)) count ∙ sym (take-take (length (until-zero part)) 4096 (drop 196_608 s) few) ∙ text-front part)
-      ∙ sym same
-
-  -- and no more than there is room for
-  pub reports-few : reports ≤ 4096
-  unfolding log-in
-  reports-few =
-      let part : List ℕ = take 4096 (drop 196_608 s) in
-      let same : h .plan-held .log ≡ log-in s = held-log s (h .plan-held) (h .of-slice) in
-      omega (arith, h .reports-are ∙ ap length same ∙ entries-count (until-zero part) (drop 200_704 s), part-short 4096 (drop 196_608 s))
-
-  -- its book is the plan's
-  pub book-there : log-book carts w cells (take reports (drop 196_608 s)) (drop 200_704 s) ≡ some its-book
-  book-there =
-      let ts′ : Tables = ts s edges speeds cells roads carts w reports h in
-      let says : judge ts′ ≡ accepted its = accepted-there s edges speeds cells roads carts w reports h in
-      ap (λ (n : ℕ). log-book n w cells (take reports (drop 196_608 s)) (drop 200_704 s)) (h .carts-are)
-      ∙ ap (λ (n : ℕ). log-book (length (its .carts)) n cells (take reports (drop 196_608 s)) (drop 200_704 s)) (h .steps-are)
-      ∙ ap (λ (x : List ℕ). log-book (length (its .carts)) (steps (its .paths)) x (take reports (drop 196_608 s)) (drop 200_704 s)) (h .cells-are)
-      ∙ log-book-is ts′ its (judged ts′ its says .0) (limits-there s edges speeds cells roads carts w reports h) 8192 (lit≤ tt) (take reports (drop 196_608 s)) (drop 200_704 s)
-      ∙ ap (replay its (first-book its)) log-there
-      ∙ held-says s (h .plan-held) (h .of-slice) .2
-
-  -- what it adds is what the book adds to the plan
-  pub added-there : added-bounds (of-paths (paths-in carts w cells)) its-book ≡ added-bounds its its-book
-  added-there =
-      ap (λ (x : List (List ℕ)). added-bounds (of-paths x) its-book) (paths-there s edges speeds cells roads carts w reports h)
-      ∙ sym (added-by-paths its (sym (sound s edges speeds cells roads carts w reports h .path-each)) its-book)
 
 -- ---- what is answered and left
 

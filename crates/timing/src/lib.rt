@@ -13,7 +13,8 @@ ghost use Rattle.tables.specs.Arrays.{paths-in};
 ghost use Rattle.limits.specs.Limits.{of-paths};
 ghost use Rattle.book.specs.Log.{added-of, added-answer};
 ghost use Rattle.slice.specs.PlanSlice.{held};
-ghost use Rattle.timing.specs.Bounding.{log-of, Holds, bounding-fits, bounding, held-bounds, bounding-answer, bounding-written};
+ghost use Rattle.slice.specs.HeldPlan.{log-of, Holds};
+ghost use Rattle.timing.specs.Bounding.{bounding-fits, bounding, held-bounds, bounding-answer, bounding-written};
 
 // How many events there are, how many bounds of the plan's own, and how many in all.
 pub enum Bounding {

@@ -4,7 +4,8 @@ use native.Mathlib.Omega.{arith}
 use mathlib.Core.Path.{_≡_}
 use lib.ListN.{length}
 use borrow.Author.Needs.{needs}
-use Rattle.timing.proofs.Written.{reports-few, own-fit, own-few, ends-long, ranges-long, some-book, more-few, both-written}
+use Rattle.slice.proofs.HeldPlan.{reports-few}
+use Rattle.timing.proofs.Written.{own-fit, own-few, ends-long, ranges-long, some-book, more-few, both-written}
 use Rattle.timing.proofs.write_both.Statement.{statement}
 use Rattle.timing.proofs.write_both.Tie as tie
 

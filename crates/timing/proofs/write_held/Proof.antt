@@ -1,6 +1,7 @@
 -- `timing::write_held` meets its contract: something is too short, no plan is held, or its bounds are written. Assumes nothing.
 use borrow.Author.Needs.{needs}
-use Rattle.timing.proofs.Outcome.{short-plan, short-ends, short-ranges, all-long, none-held, never-short, no-plan, held-there}
+use Rattle.slice.proofs.HeldPlan.{never-short, no-plan, held-there}
+use Rattle.timing.proofs.Outcome.{short-plan, short-ends, short-ranges, all-long, none-held}
 use Rattle.timing.proofs.write_held.Statement.{statement}
 use Rattle.timing.proofs.write_held.Tie as tie
 
