@@ -85,11 +85,16 @@ static inline void hold(const char *name) {
     }
 }
 
-static inline void hold_bytes(const char *name, struct bytes roads, struct bytes carts, struct bytes paths) {
+/* these tables, in p */
+static inline void put_bytes(struct bytes roads, struct bytes carts, struct bytes paths) {
     p.roads.length = p.carts.length = p.paths.length = 0;
     add_bytes(&p.roads, roads.at, roads.length);
     add_bytes(&p.carts, carts.at, carts.length);
     add_bytes(&p.paths, paths.at, paths.length);
+}
+
+static inline void hold_bytes(const char *name, struct bytes roads, struct bytes carts, struct bytes paths) {
+    put_bytes(roads, carts, paths);
     hold(name);
 }
 
