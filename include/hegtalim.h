@@ -19,6 +19,15 @@ extern "C" {
 #define HEGTALIM_CHAIN_BOUNDS_NEED 8192
 #define HEGTALIM_CHAIN_DIRECTIONS_NEED 4096
 
+/* The greatest counts: bytes of a table, carts, events of a plan, items of a chain. */
+#define HEGTALIM_MOST_TABLE_BYTES 65536
+#define HEGTALIM_MOST_CARTS 64
+#define HEGTALIM_MOST_EVENTS 4096
+#define HEGTALIM_MOST_ITEMS 4096
+
+/* The greatest time that a report may have, 10^12 milliseconds. */
+#define HEGTALIM_MOST_TIME UINT64_C(1000000000000)
+
 /* The parts of a call's answer. */
 #define HEGTALIM_REFUSAL(answer) ((unsigned)((answer) & 0xff))    /* 0: none */
 #define HEGTALIM_TABLE(answer) ((unsigned)((answer) >> 8 & 0xff)) /* 1 roads, 2 carts, 3 paths, 0 none */
@@ -32,10 +41,16 @@ uint64_t hegtalim_load(const uint8_t *roads, size_t roads_len, const uint8_t *ca
 
 /* Times the plan that is held. Numbers in slices are little-endian.
    Refusal 0: the times slice begins with the time of each event, in milliseconds, 8 bytes each. 13: no times exist; the chain slices begin with the
-   items of a chain, the bound's number in 2 bytes, the direction in 1. 10: the plan slice holds no plan. 14: a slice is too short.
-   Nothing else is written; the plan slice is only read. */
+   items of a chain, the bound's number in 2 bytes, the direction in 1 (0 onward, 1 back); 10,000 + e is the bound that the reports add for event e.
+   10: the plan slice holds no plan. 14: a slice is too short. Nothing else is written; the plan slice is only read. */
 uint64_t hegtalim_timetable(const uint8_t *plan, size_t plan_len, uint8_t *times, size_t times_len,
                             uint8_t *chain_bounds, size_t chain_bounds_len, uint8_t *chain_directions, size_t chain_directions_len);
+
+/* Reports that a cart, counted from 1, has passed its next point at a time in milliseconds. Its first entry counts as passed at 0.
+   Refusal 0: the report is taken, and the plan slice holds it; the time is the clock from now on. 14: the plan slice is too short. 10: it holds no plan.
+   11: there is no such cart, or it has passed all its points. 12: the time is below the clock, which is the greatest time taken so far and at first 0,
+   or over 10^12. These four are judged in this order and change no byte. Table and value are 0. */
+uint64_t hegtalim_report(uint8_t *plan, size_t plan_len, uint64_t cart, uint64_t time);
 
 #ifdef __cplusplus
 }

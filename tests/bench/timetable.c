@@ -6,8 +6,6 @@
 #include "../common/slice.h"
 #include "clock.h"
 
-#define MOST_REPETITIONS 101
-
 static struct plan p;
 static uint8_t held[HEGTALIM_PLAN_NEED], times[HEGTALIM_TIMES_NEED], chain_bounds[HEGTALIM_CHAIN_BOUNDS_NEED],
     chain_directions[HEGTALIM_CHAIN_DIRECTIONS_NEED];
@@ -48,17 +46,6 @@ static void same_times(const char *name) {
 
 /* ---- times */
 
-static double took(void (*side)(void)) {
-    double from = microseconds();
-    side();
-    return microseconds() - from;
-}
-
-static int by_size(const void *a, const void *b) {
-    double x = *(const double *)a, y = *(const double *)b;
-    return (x > y) - (x < y);
-}
-
 static void compare(const char *name, unsigned repetitions) {
     static double timetable[MOST_REPETITIONS], plain[MOST_REPETITIONS];
     put_tables(held, sizeof held, &p);
@@ -67,19 +54,14 @@ static void compare(const char *name, unsigned repetitions) {
         timetable[k] = took(timetable_side);
         plain[k] = took(plain_side);
     }
-    qsort(timetable, repetitions, sizeof *timetable, by_size);
-    qsort(plain, repetitions, sizeof *plain, by_size);
-    double a = timetable[repetitions / 2], b = plain[repetitions / 2];
+    double a = median(timetable, repetitions), b = median(plain, repetitions);
     printf("%s (%u events, %u bounds, %u passes): timetable %.2f ms, plain C %.2f ms, ratio %.1f\n", name, network.events, network.bounds,
            solution.passes, 1e-3 * a, 1e-3 * b, a / b);
 }
 
 int main(int argc, char **argv) {
     static struct steps way;
-    unsigned repetitions = argc > 1 ? (unsigned)strtoul(argv[1], NULL, 10) : 15;
-    if (repetitions == 0 || repetitions > MOST_REPETITIONS)
-        repetitions = 1;
-    printf("median of %u\n", repetitions);
+    unsigned repetitions = medians_of(argc, argv, 15);
     to_and_fro(&p, &way, 1, 301, 300, 0);
     compare("one cart, 300 moves", repetitions);
     to_and_fro(&p, &way, 1, 1024, 1023, 0);

@@ -57,6 +57,9 @@ static inline struct bytes bytes_of(const struct text *t) { return (struct bytes
 #define DE "3,4,1000000,250000\r\n"
 #define CF "2,5,1000000,250000\r\n"
 #define LINE ROADS AB BC CD DE
+/* document 01's pair */
+#define PAIR ROADS AB BC CD DE CF
+#define PAIR_PATHS "0,1,2,3,4\r\n1,2,5,2,3\r\n"
 #define FREE "250000,\r\n"
 #define ONE CARTS FREE
 #define TWO CARTS FREE FREE

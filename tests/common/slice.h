@@ -48,4 +48,16 @@ static inline void parse_plan(const struct plan *p, struct numbers *to) {
     parse(p->roads.bytes, p->roads.length, p->carts.bytes, p->carts.length, p->paths.bytes, p->paths.length, to);
 }
 
+/* the log of a plan in which every point is reported at its time: how many reports there are */
+static inline size_t every_report(const struct plan *p, struct report *log) {
+    static struct numbers numbers;
+    static struct network network;
+    static struct solution solution;
+    parse_plan(p, &numbers);
+    read_network(&numbers, &network);
+    add_reports(&network, log, 0);
+    solve(&network, &solution);
+    return report_all(&network, &solution, log);
+}
+
 #endif

@@ -38,7 +38,7 @@ struct network {
 };
 
 struct report {
-    unsigned cart; /* from 1 */
+    uint64_t cart; /* from 1 */
     uint64_t time;
 };
 
@@ -178,12 +178,12 @@ static inline void open_book(const struct network *n, struct book *b) {
         b->passed[j] = 1;
 }
 
-static inline int has_next(const struct network *n, const struct book *b, unsigned cart) {
+static inline int has_next(const struct network *n, const struct book *b, uint64_t cart) {
     return 1 <= cart && cart <= n->carts && b->passed[cart - 1] < points(n, cart - 1);
 }
 
 /* a cart's next point */
-static inline unsigned next_point(const struct network *n, const struct book *b, unsigned cart) {
+static inline unsigned next_point(const struct network *n, const struct book *b, uint64_t cart) {
     return first_point(n, cart - 1) + b->passed[cart - 1];
 }
 

@@ -9,6 +9,7 @@
 
 static struct plan p;
 static struct steps way;
+static struct report log[LOG_PLACES];
 static uint8_t held[HEGTALIM_PLAN_NEED], times[HEGTALIM_TIMES_NEED], chain_bounds[HEGTALIM_CHAIN_BOUNDS_NEED],
     chain_directions[HEGTALIM_CHAIN_DIRECTIONS_NEED];
 static unsigned passed, failed;
@@ -26,24 +27,11 @@ static void measure(const char *name, unsigned expected) {
         failed++;
 }
 
-/* every point reported at its time */
-static void report_every_point(void) {
-    static struct numbers numbers;
-    static struct network network;
-    static struct solution solution;
-    static struct report log[LOG_PLACES];
-    parse_plan(&p, &numbers);
-    read_network(&numbers, &network);
-    add_reports(&network, log, 0);
-    solve(&network, &solution);
-    put_log(held, log, report_all(&network, &solution, log));
-}
-
 int main(void) {
     times_at_limits(&p);
     put_tables(held, sizeof held, &p);
     measure("64 carts at the limits", 0);
-    report_every_point();
+    put_log(held, log, every_report(&p, log));
     measure("64 carts at the limits, every point reported", 0);
     to_and_fro(&p, &way, 2, 700, 682, 0);
     put_tables(held, sizeof held, &p);
