@@ -29,6 +29,10 @@ put-length {s} {at} {a} p = ap length (p .stored) ∙ length-sets s at a
 pub put-as : {s : List ℕ} {at : ℕ} {a b t : List ℕ} {k : ℕ} → a ≡ b → Put s at a t k → Put s at b t k
 put-as {s} {at} {a} {b} {t} {k} e p = subst (λ (x : List ℕ). Put s at x t k) e p
 
+-- the same slice and place by other names
+pub put-to : {s : List ℕ} {at : ℕ} {a t : List ℕ} {k : ℕ} → Put s at a t k → (u : List ℕ) (m : ℕ) → u ≡ t → m ≡ k → Put s at a u m
+put-to p u m e q = record { stored = e ∙ p .stored; behind = q ∙ p .behind }
+
 -- ---- room
 
 -- where there is room for two pieces there is for the first
@@ -74,6 +78,15 @@ module _ {s : List ℕ} {k : ℕ} {whole t : List ℕ} {j : ℕ} {rest : List �
   -- the same is still to be put
   pub put-same : (more : List ℕ) → rest ≡ more → Putting s k whole t j more
   put-same more e = subst (λ (x : List ℕ). Putting s k whole t j x) e w
+
+  -- in the same slice and place by other names
+  pub put-on : (u : List ℕ) (m : ℕ) → u ≡ t → m ≡ j → Putting s k whole u m rest
+  put-on u m e q =
+      record {
+        stored = ap (λ (x : List ℕ). sets x m rest) e ∙ ap (λ (n : ℕ). sets t n rest) q ∙ w .stored;
+        behind = omega (arith, q, w .behind);
+        long = ap length e ∙ w .long;
+      }
 
   -- the next piece is put
   pub put-more : (a more : List ℕ) → rest ≡ a ++ more → {u : List ℕ} {m : ℕ} → Put t j a u m → Putting s k whole u m more

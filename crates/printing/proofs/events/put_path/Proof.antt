@@ -1,75 +1,103 @@
+-- `printing::events::put_path` meets its contract: the line of the first cell, then three for each move. Assumes nothing.
+use Prim.Native.Nat.{ℕ, _+_, _-_, _≤_, _<_}
+use native.Mathlib.Omega.{arith}
+use mathlib.Core.Path.{_≡_, _∙_}
+use mathlib.Core.Logic.{⊎-elim}
+use lib.ListN.{length, getD}
+use borrow.Author.Needs.{needs}
+use Rattle.words.specs.Words.{word-at}
+use Rattle.printing.proofs.Puts.{put-length}
+use Rattle.printing.proofs.PathSteps.{OnPath, on-first, first-room, on-last, on-room, on-wait, on-move}
 use Rattle.printing.proofs.events.put_path.Statement.{statement}
 use Rattle.printing.proofs.events.put_path.Tie as tie
-use Rattle.printing.proofs.events.put_path.Reads as reads
-use Rattle.printing.proofs.events.put_path.Lts as lts
-use Rattle.printing.proofs.lines.put_move.Reads as put-move-reads
-use Rattle.printing.proofs.lines.put_point.Reads as put-point-reads
 
 abbrev Inv-loop : tie.InvT-loop
-Inv-loop out₀ k times e j cells at steps c₀ place₀ event₀ s₀ out c place event s = ?
+Inv-loop out₀ k times e j cells at steps c₀ place₀ event₀ s₀ out c place event s =
+    OnPath (word-at 8 times) j cells at steps e out₀ place₀ out c place event s
 
 abbrev μ-loop : tie.MeasureT-loop
-μ-loop out₀ k times e j cells at steps c₀ place₀ event₀ s₀ out c place event s = ?
+μ-loop out₀ k times e j cells at steps c₀ place₀ event₀ s₀ out c place event s = steps - s
 
--- src/events.rt:34:17
 mul-c : tie.Need-mul-c Inv-loop μ-loop
-mul-c c = ?
+mul-c c = search needs
 
--- src/events.rt:34:17
 shared-slice-read-c : tie.Need-shared-slice-read-c Inv-loop μ-loop
-shared-slice-read-c c = ?
+shared-slice-read-c c = search needs
 
--- src/events.rt:35:9
 put-point-requires : tie.Need-put-point-requires Inv-loop μ-loop
-put-point-requires c κs = ?
+put-point-requires c κs =
+    let b = c .before .before .before .before .before in
+    let a = b .args in
+    first-room (word-at 8 (a .times .now)) (a .j) (a .cells .now) (a .at) (a .steps) (b .pre .0 .2) (a .e) (b .pre .0 .0) (a .out .now) (a .k) (a .out .now) (a .k) (b .pre .1 .1)
 
--- src/events.rt:36:21
 add-event : tie.Need-add-event Inv-loop μ-loop
-add-event c = ?
+add-event c = search needs
 
--- src/events.rt:38:5
 loop-holds : tie.Need-loop-holds Inv-loop μ-loop
-loop-holds c = ?
+loop-holds c =
+    let p = c .before .before in
+    let b = p .before .before .before .before .before .before in
+    let a = b .args in
+    on-first (word-at 8 (a .times .now)) (a .j) (a .cells .now) (a .at) (a .steps) (b .pre .0 .2) (a .e) (b .pre .0 .0) (p .put-point .last .0) (p .put-point .result)
 
--- src/events.rt:39:23
 add-d : tie.Need-add-d Inv-loop μ-loop
-add-d c = ?
+add-d c = search needs
 
--- src/events.rt:39:17
 mul-d : tie.Need-mul-d Inv-loop μ-loop
-mul-d c = ?
+mul-d c = search needs
 
--- src/events.rt:39:17
 shared-slice-read-d : tie.Need-shared-slice-read-d Inv-loop μ-loop
-shared-slice-read-d c = ?
+shared-slice-read-d c = search needs
 
--- src/events.rt:41:13
 put-move-requires : tie.Need-put-move-requires Inv-loop μ-loop
-put-move-requires c κs = ?
+put-move-requires c κs =
+    let l = c .before .before .before .before in
+    let p = l .before .before .before in
+    let b = p .before .before .before .before .before .before in
+    let a = b .args in
+    on-room (word-at 8 (a .times .now)) (a .j) (a .cells .now) (a .at) (a .steps) (b .pre .0 .2) (a .e) (b .pre .0 .0) (p .put-point .last .0) (p .put-point .result) (a .out .now) (a .k) (p .put-point .ensures) (l .loop .out) (l .loop .c) (l .loop .place) (l .loop .event) (l .loop .s) (l .loop .inv) (b .pre .1 .1) (b .pre .1 .0) (c .before .before .before .loop-test .taken) (c .before .if1 .taken)
 
--- src/events.rt:42:13
 add-event-2 : tie.Need-add-event-2 Inv-loop μ-loop
-add-event-2 c = ?
+add-event-2 c =
+    let l = c .before .before .before .before .before .before .before in
+    let p = l .before .before .before in
+    let b = p .before .before .before .before .before .before in
+    let a = b .args in
+    omega (arith, l .loop .inv .counted, b .pre .1 .0)
 
--- src/events.rt:45:9
 add-s : tie.Need-add-s Inv-loop μ-loop
-add-s c = ?
+add-s c = search needs
 
--- src/events.rt:38:5
 loop-less : tie.Need-loop-less Inv-loop μ-loop
-loop-less c = ?
+loop-less c = search needs
 
--- src/events.rt:38:5
 loop-again : tie.Need-loop-again Inv-loop μ-loop
-loop-again c = ?
+loop-again c =
+    let l = c .before .before .before in
+    let p = l .before .before .before in
+    let b = p .before .before .before .before .before .before in
+    let a = b .args in
+    let t : l .loop .s < a .steps = c .before .before .loop-test .taken in
+    ⊎-elim
+    (λ w. on-move (word-at 8 (a .times .now)) (a .j) (a .cells .now) (a .at) (a .steps) (b .pre .0 .2) (a .e) (b .pre .0 .0) (p .put-point .last .0) (p .put-point .result) (l .loop .out) (l .loop .c) (l .loop .place) (l .loop .event) (l .loop .s) (l .loop .inv) t (c .if1 .out) (c .if1 .place) (c .if1 .event) (w .0 .taken) _ _ (w .2 .ensures) (w .5) (w .6) (w .7))
+    (λ w. on-wait (word-at 8 (a .times .now)) (a .j) (a .cells .now) (a .at) (a .steps) (b .pre .0 .2) (a .e) (b .pre .0 .0) (p .put-point .last .0) (p .put-point .result) (l .loop .out) (l .loop .c) (l .loop .place) (l .loop .event) (l .loop .s) (l .loop .inv) t (c .if1 .out) (c .if1 .place) (c .if1 .event) (w .0 .left) (w .1) (w .2) (w .3))
+    (c .if1 .came)
 
--- src/events.rt:18:1
 same-length : tie.Need-same-length Inv-loop μ-loop
-same-length c = ?
+same-length c =
+    let l = c .before in
+    let p = l .before .before .before in
+    let b = p .before .before .before .before .before .before in
+    let a = b .args in
+    l .loop .inv .putting .long ∙ put-length (p .put-point .ensures)
 
--- src/events.rt:18:1
 returns : tie.Need-returns Inv-loop μ-loop
-returns c = ?
+returns c =
+    let l = c .before in
+    let p = l .before .before .before in
+    let b = p .before .before .before .before .before .before in
+    let a = b .args in
+    on-last (word-at 8 (a .times .now)) (a .j) (a .cells .now) (a .at) (a .steps) (b .pre .0 .2) (a .e) (b .pre .0 .0) (p .put-point .last .0) (p .put-point .result) (a .out .now) (a .k) (p .put-point .ensures) (l .loop .out) (l .loop .c) (l .loop .place) (l .loop .event) (l .loop .s) (l .loop .inv) (c .loop-test .left)
 
 pub put-path-spec : {M : Type 1} → statement M
 put-path-spec =
