@@ -8,7 +8,7 @@ use Rattle.csv.specs.Text.{bytes}
 use Rattle.floor.specs.declared.Table.{Table}
 use Rattle.floor.specs.Refusal.{table-number}
 use Rattle.printing.specs.Text.{shown, place-shown, refusal-text}
-use Rattle.printing.specs.Lines.{field, ending}
+use Rattle.printing.specs.Lines.{field, ending, outer-line, paths-lines, lines-text}
 use Rattle.printing.proofs.Digits.{shown-most}
 use Rattle.printing.proofs.Fields.{field-length, ending-length}
 
@@ -51,3 +51,15 @@ refusal-room why table row s h =
       shown-most table,
       shown-most row,
     )
+
+-- ---- times
+
+-- their first line
+abbrev pub times-line : List ℕ
+times-line = bytes "event,cart,cell,time\r\n"
+
+-- room for the pieces
+pub times-room : (time : ℕ → ℕ) (n : ℕ) (ps : List (List ℕ)) (s : List ℕ) → length (lines-text time n ps) ≤ length s
+    → 0 + length (times-line ++ (outer-line time 0 ++ (paths-lines time 1 1 ps ++ outer-line time n))) ≤ length s
+unfolding lines-text
+times-room time n ps s h = omega arith
