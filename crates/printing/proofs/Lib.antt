@@ -4,3 +4,5 @@ pub mod Fields
 pub mod Texts
 pub mod PathSteps
 pub mod CartSteps
+pub mod EventTexts
+pub mod Plans
