@@ -6,3 +6,5 @@ pub mod PathSteps
 pub mod CartSteps
 pub mod EventTexts
 pub mod Plans
+pub mod Timings
+pub mod Outcomes

@@ -1,62 +1,69 @@
+-- `printing::put_plan` meets its contract: the slice holds a plan, whose paths are read into an array. Assumes nothing.
+use mathlib.Core.Path.{sym, _∙_}
+use mathlib.Core.Option.{Option·none-ne-some}
+use Rattle.words.specs.Words.{word-at}
+use Rattle.timing.proofs.Outcome.{never-short, no-plan, held-there}
+use Rattle.printing.proofs.Plans.{array-there, events-few, plan-room, plan-put}
 use borrow.Author.Needs.{needs}
 use Rattle.printing.proofs.put_plan.Statement.{statement}
 use Rattle.printing.proofs.put_plan.Tie as tie
-use Rattle.printing.proofs.put_plan.Reads as reads
-use Rattle.printing.proofs.put_plan.Lts as lts
-use Rattle.printing.proofs.events.put_times.Reads as put-times-reads
-use Rattle.slice.proofs.read_plan.Reads as read-plan-reads
 
--- src/lib.rt:49:36
 slice-aggregate-read-plan : tie.Need-slice-aggregate-read-plan
 slice-aggregate-read-plan c = search needs
 
--- src/lib.rt:49:48
 slice-aggregate-read-plan-2 : tie.Need-slice-aggregate-read-plan-2
 slice-aggregate-read-plan-2 c = search needs
 
--- src/lib.rt:49:61
 slice-aggregate-read-plan-3 : tie.Need-slice-aggregate-read-plan-3
 slice-aggregate-read-plan-3 c = search needs
 
--- src/lib.rt:49:9
 read-plan-requires : tie.Need-read-plan-requires
 read-plan-requires c κs = search needs
 
--- src/lib.rt:51:30
 enum-told : tie.Need-enum-told
 enum-told c = search needs
 
--- src/lib.rt:52:28
 enum-told-2 : tie.Need-enum-told-2
 enum-told-2 c = search needs
 
--- src/lib.rt:55:20
 enum-known-x : tie.Need-enum-known-x
 enum-known-x c = search needs
 
--- src/lib.rt:58:44
 slice-aggregate-put-times : tie.Need-slice-aggregate-put-times
 slice-aggregate-put-times c = search needs
 
--- src/lib.rt:58:14
 put-times-requires : tie.Need-put-times-requires
-put-times-requires c κs = ?
+put-times-requires c κs =
+    let r = c .before .before .before .before .before .before .before .before in
+    let b = r .before .before .before .before .before .before .before in
+    let a = b .args in
+    let h = held-there (a .plan .now) (b .pre .1) (r .read-plan .result) (r .read-plan .ensures .0) _ _ _ (r .read-plan .ensures .1 .0) (r .read-plan .ensures .1 .1 .0) (r .read-plan .ensures .1 .1 .1) _ _ _ _ (c .before .before .before .x .given .1) in
+    (array-there _ _ _ _ _ _ _ _ h, (events-few _ _ _ _ _ _ _ _ h, plan-room _ _ _ _ _ _ _ _ h (word-at 8 (a .times .now)) (a .out .now) (b .pre .0)))
 
--- src/lib.rt:42:1
 returns : tie.Need-returns
-returns c = ?
+returns c h e =
+    let r = c .before .before .before .before .before in
+    let b = r .before .before .before .before .before .before .before in
+    let a = b .args in
+    absurd (never-short (a .plan .now) (b .pre .1) (r .read-plan .result) (r .read-plan .ensures .0) (c .enum-told .given .1))
 
--- src/lib.rt:42:1
 returns-2 : tie.Need-returns-2
-returns-2 c = ?
+returns-2 c h e =
+    let r = c .before .before .before .before .before in
+    let b = r .before .before .before .before .before .before .before in
+    let a = b .args in
+    absurd (Option·none-ne-some _ (sym (no-plan (a .plan .now) (b .pre .1) (r .read-plan .result) (r .read-plan .ensures .0) (c .enum-told2 .given .1)) ∙ e))
 
--- src/lib.rt:42:1
 same-length : tie.Need-same-length
 same-length c = search needs
 
--- src/lib.rt:42:1
 returns-3 : tie.Need-returns-3
-returns-3 c = ?
+returns-3 c =
+    let r = c .before .before .before .before .before .before .before .before .before .before .before in
+    let b = r .before .before .before .before .before .before .before in
+    let a = b .args in
+    let h = held-there (a .plan .now) (b .pre .1) (r .read-plan .result) (r .read-plan .ensures .0) _ _ _ (r .read-plan .ensures .1 .0) (r .read-plan .ensures .1 .1 .0) (r .read-plan .ensures .1 .1 .1) _ _ _ _ (c .before .before .before .before .before .before .x .given .1) in
+    plan-put _ _ _ _ _ _ _ _ h (word-at 8 (a .times .now)) (a .out .now) _ _ (c .before .before .put-times .ensures)
 
 pub put-plan-spec : {M : Type 1} → statement M
 put-plan-spec =
