@@ -1,67 +1,74 @@
+-- `printing::print` meets its contract, on all input. Assumes nothing.
+use mathlib.Core.Path.{sym, _∙_}
+use lib.Dec.{lit≤}
+use lib.ListN.{replicate}
+use Rattle.floor.specs.Tables.{Tables}
+use Rattle.printing.proofs.Puts.{put-as}
+use Rattle.printing.proofs.Outcomes.{prints-short, prints-text, never-short, refused-output, held-output}
 use borrow.Author.Needs.{needs}
 use Rattle.printing.proofs.print.Statement.{statement}
 use Rattle.printing.proofs.print.Tie as tie
-use Rattle.printing.proofs.print.Reads as reads
-use Rattle.printing.proofs.print.Lts as lts
-use Rattle.hegtalim.proofs.load.Reads as load-reads
-use Rattle.printing.proofs.put_refusal.Reads as put-refusal-reads
-use Rattle.printing.proofs.put_timed.Reads as put-timed-reads
 
--- src/lib.rt:85:9
+-- the tables as they were lent
+abbrev tables : tie.Start → Tables
+tables b = let a = b .args in record { roads = a .roads .now; carts = a .carts .now; paths = a .paths .now }
+
 returns : tie.Need-returns
-returns c = ?
+returns c =
+    let b = c .before .before .before .before .before in
+    prints-short (tables b) (b .args .out .now) (c .if1 .taken)
 
--- src/lib.rt:88:49
 slice-aggregate-load : tie.Need-slice-aggregate-load
 slice-aggregate-load c = search needs
 
--- src/lib.rt:88:9
 load-requires : tie.Need-load-requires
 load-requires c κs = search needs
 
--- src/lib.rt:90:29
 enum-told : tie.Need-enum-told
 enum-told c = search needs
 
--- src/lib.rt:91:25
 enum-known-x : tie.Need-enum-known-x
 enum-known-x c = search needs
 
--- src/lib.rt:91:48
 put-refusal-requires : tie.Need-put-refusal-requires
 put-refusal-requires c κs = search needs
 
--- src/lib.rt:92:50
 enum-told-2 : tie.Need-enum-told-2
 enum-told-2 c = search needs
 
--- src/lib.rt:92:55
 slice-aggregate-put-timed : tie.Need-slice-aggregate-put-timed
 slice-aggregate-put-timed c = search needs
 
--- src/lib.rt:92:40
 put-timed-requires : tie.Need-put-timed-requires
 put-timed-requires c κs = search needs
 
--- src/lib.rt:80:1
 returns-2 : tie.Need-returns-2
-returns-2 c = ?
+returns-2 c =
+    let r = c .before .before .before in
+    let b = r .before .before .before .before .before .before .before in
+    absurd (never-short (tables b) (replicate 233_472 0) (lit≤ tt) (sym (c .enum-told .given .1) ∙ r .load .ensures .0))
 
--- src/lib.rt:80:1
 same-length : tie.Need-same-length
 same-length c = search needs
 
--- src/lib.rt:80:1
 returns-3 : tie.Need-returns-3
-returns-3 c = ?
+returns-3 c =
+    let r = c .before .before .before .before .before .before .before .before in
+    let b = r .before .before .before .before .before .before .before in
+    let a = b .args in
+    prints-text (tables b) (a .out .now) (r .before .before .if1 .left) _ _
+    (put-as (refused-output (tables b) (replicate 233_472 0) (lit≤ tt) _ (sym (c .before .before .before .before .before .x .given .1) ∙ r .load .ensures .0)) (c .before .before .put-refusal .ensures))
 
--- src/lib.rt:80:1
 same-length-2 : tie.Need-same-length-2
 same-length-2 c = search needs
 
--- src/lib.rt:80:1
 returns-4 : tie.Need-returns-4
-returns-4 c = ?
+returns-4 c =
+    let r = c .before .before .before .before .before .before .before .before in
+    let b = r .before .before .before .before .before .before .before in
+    let a = b .args in
+    prints-text (tables b) (a .out .now) (r .before .before .if1 .left) _ _
+    (held-output (tables b) (replicate 233_472 0) (lit≤ tt) (sym (c .before .before .before .before .before .enum-told2 .given .1) ∙ r .load .ensures .0) _ (r .load .ensures .1) (a .out .now) _ _ (c .before .before .put-timed .ensures))
 
 pub print-spec : {M : Type 1} → statement M
 print-spec =
