@@ -5,7 +5,8 @@ use mathlib.Core.Path.{_≡_, refl, ap, sym, _∙_, subst}
 use mathlib.Core.Bool.{Bool, true, false}
 use mathlib.Core.List.{List, [], _∷_, _++_}
 use mathlib.Core.Option.{Option, none, some}
-use lib.ListN.{length, replicate, length-append, length-replicate}
+use lib.Dec.{leb}
+use lib.ListN.{length, drop, length-append}
 use borrow.Author.Tests.{le-leb, lt-leb}
 use Rattle.words.specs.Words.{written}
 use Rattle.csv.specs.Text.{bytes}
@@ -140,3 +141,22 @@ module _ (ts : Tables) (before : List ℕ) (long : 233_472 ≤ length before) wh
       let there : held plan ≡ some (record { tables = ts; log = []; plan = p; book = first-book p }) =
       ap held is ∙ held-slice (length before) ts p [] (first-book p) long j refl in
       subst (λ (x : Judged Plan). Put out 0 (judged-output x) t k) (sym j) (put (record { tables = ts; log = []; plan = p; book = first-book p }) there)
+
+-- ---- what is answered fits
+
+-- how many bytes an answer says
+abbrev bytes-said : Printed → ℕ
+bytes-said Printed.TooShort = 0
+bytes-said (Printed.Bytes n) = n
+
+-- no more than the slice then has
+pub answer-fits : (ts : Tables) (out : List ℕ) (n : ℕ) (t : List ℕ) → Prints ts out (Printed.Bytes n) t → n ≤ length t
+unfolding print written
+answer-fits ts out n t (e, f) = by (leb output-need (length out)) (ap bytes-said e) f
+  where
+    by : (b : Bool)
+        → n ≡ bytes-said (elim b as (λ _. Printing) [ false ↦ record { answer = Printed.TooShort; out = out } | true ↦ record { answer = Printed.Bytes (length (output ts)); out = written (output ts) out } ] .answer)
+        → t ≡ elim b as (λ _. Printing) [ false ↦ record { answer = Printed.TooShort; out = out } | true ↦ record { answer = Printed.Bytes (length (output ts)); out = written (output ts) out } ] .out
+        → n ≤ length t
+    by false z f = omega (arith, z)
+    by true z f = omega (arith, z, ap length f, length-append (output ts) (drop (length (output ts)) out))

@@ -77,7 +77,13 @@ fn put_paths(
 }
 
 // Puts the times of paths in an array, whole: a first line, the start, the paths, the finish.
-pub(crate) fn put_times(out: &mut [u8], times: &[u8], cells: &[u32], carts: usize, steps: usize) -> usize
+pub(crate) fn put_times(
+    out: &mut [u8],
+    times: &[u8],
+    cells: &[u32],
+    carts: usize,
+    steps: usize,
+) -> usize
     requires { ⌜ (carts ≤ 64) × (1 ≤ steps) × (steps ≤ 1024) × (carts * steps ≤ length (now cells)) ⌝ }
     requires { ⌜ 2 + carts + 3 * total moves (paths-in carts steps (now cells)) ≤ 4096 ⌝ }
     requires { ⌜ length (lines-text (word-at 8 (now times)) (1 + carts + 3 * total moves (paths-in carts steps (now cells))) (paths-in carts steps (now cells))) ≤ length (now out) ⌝ }

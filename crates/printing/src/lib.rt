@@ -71,7 +71,11 @@ fn put_timed(out: &mut [u8], plan: &[u8]) -> usize
     match x {
         Timed::TooShort => 0,
         Timed::NoPlan => 0,
-        Timed::NoTimes { length: _ } => lines::put_text(out, 0, b"refusal,table,record\r\n13,,\r\n"),
+        Timed::NoTimes { length: _ } => lines::put_text(
+            out,
+            0,
+            b"refusal,table,record\r\n13,,\r\n",
+        ),
         Timed::Times { passes: _ } => put_plan(out, plan, &times),
     }
 }

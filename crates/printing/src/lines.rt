@@ -55,7 +55,14 @@ pub(crate) fn put_ending(out: &mut [u8], at: usize, n: u64) -> usize
 }
 
 // Puts the line of a point, event e of cart j, at a cell.
-pub(crate) fn put_point(out: &mut [u8], at: usize, times: &[u8], e: usize, j: usize, cell: u32) -> usize
+pub(crate) fn put_point(
+    out: &mut [u8],
+    at: usize,
+    times: &[u8],
+    e: usize,
+    j: usize,
+    cell: u32,
+) -> usize
     requires { ⌜ at + length (point-line (word-at 8 (now times)) e j cell) ≤ length (now out) ⌝ }
     ensures { λ r. ⌜ Put (now (out .entry)) at (point-line (word-at 8 (now (times .entry))) e j cell) (now (out .exit)) r ⌝ }
 {

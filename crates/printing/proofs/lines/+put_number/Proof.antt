@@ -71,7 +71,7 @@ put-number-put-number-requires : (t : ℕ) → put-number-lts.Need-put-number-re
   put-number-below t,
   put-number.Post,
 ) (put-number-at t) put-number.Post
-put-number-put-number-requires t c κs = 
+put-number-put-number-requires t c κs =
     let b = c .before .before .before in
     let a = b .args in
     let g : 10 ≤ a .n = c .before .if1 .left in
@@ -95,7 +95,7 @@ put-number-slice-write-out-2 : (t : ℕ) → put-number-lts.Need-slice-write-out
   put-number-below t,
   put-number.Post,
 ) (put-number-at t) put-number.Post
-put-number-slice-write-out-2 t c = 
+put-number-slice-write-out-2 t c =
     let b = c .before .before .before .before .before .before in
     let a = b .args in
     let p = c .before .before .put-number in
@@ -107,7 +107,7 @@ put-number-add-result-2 : (t : ℕ) → put-number-lts.Need-add-result-2 (
   put-number-below t,
   put-number.Post,
 ) (put-number-at t) put-number.Post
-put-number-add-result-2 t c = 
+put-number-add-result-2 t c =
     let b = c .before .before .before .before .before .before in
     let a = b .args in
     let p = c .before .before .put-number in
@@ -125,7 +125,7 @@ put-number-returns-2 : (t : ℕ) → put-number-lts.Need-returns-2 (
   put-number-below t,
   put-number.Post,
 ) (put-number-at t) put-number.Post
-put-number-returns-2 t c = 
+put-number-returns-2 t c =
     let b = c .before .before .before .before .before .before in
     let a = b .args in
     let p = c .before .before .put-number in
