@@ -17,8 +17,8 @@ use Rattle.limits.specs.Counts.{total, moves}
 use Rattle.limits.proofs.Counts.{path-points, events-are}
 use Rattle.limits.proofs.LimitSteps.{all-events}
 use Rattle.slice.specs.PlanSlice.{Held, held}
-use Rattle.timing.specs.Bounding.{Holds}
-use Rattle.timing.proofs.Written.{p, ts, accepted-there, paths-there, some-steps}
+use Rattle.slice.specs.HeldPlan.{Holds}
+use Rattle.slice.proofs.HeldPlan.{p, ts, accepted-there, paths-there, some-steps}
 use Rattle.printing.specs.Text.{times-text}
 use Rattle.printing.specs.Lines.{Put, lines-text}
 use Rattle.printing.proofs.Puts.{put-as}

@@ -2,7 +2,7 @@
 use mathlib.Core.Path.{sym, _∙_}
 use mathlib.Core.Option.{Option·none-ne-some}
 use Rattle.words.specs.Words.{word-at}
-use Rattle.timing.proofs.Outcome.{never-short, no-plan, held-there}
+use Rattle.slice.proofs.HeldPlan.{never-short, no-plan, held-there}
 use Rattle.printing.proofs.Plans.{array-there, events-few, plan-room, plan-put}
 use borrow.Author.Needs.{needs}
 use Rattle.printing.proofs.put_plan.Statement.{statement}
