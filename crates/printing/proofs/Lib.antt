@@ -8,3 +8,4 @@ pub mod EventTexts
 pub mod Plans
 pub mod Timings
 pub mod Outcomes
+pub mod Rows

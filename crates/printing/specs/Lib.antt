@@ -1,3 +1,4 @@
 pub mod Text
 pub mod Output
 pub mod Lines
+pub mod Open

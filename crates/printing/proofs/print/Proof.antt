@@ -1,10 +1,9 @@
 -- `printing::print` meets its contract, on all input. Assumes nothing.
 use mathlib.Core.Path.{sym, _∙_}
-use lib.Dec.{lit≤}
 use lib.ListN.{replicate}
 use Rattle.floor.specs.Tables.{Tables}
 use Rattle.printing.proofs.Puts.{put-as}
-use Rattle.printing.proofs.Outcomes.{prints-short, prints-text, never-short, refused-output, held-output}
+use Rattle.printing.proofs.Outcomes.{plan-long, prints-short, prints-text, never-short, refused-output, held-output}
 use borrow.Author.Needs.{needs}
 use Rattle.printing.proofs.print.Statement.{statement}
 use Rattle.printing.proofs.print.Tie as tie
@@ -46,7 +45,7 @@ returns-2 : tie.Need-returns-2
 returns-2 c =
     let r = c .before .before .before in
     let b = r .before .before .before .before .before .before .before in
-    absurd (never-short (tables b) (replicate 233_472 0) (lit≤ tt) (sym (c .enum-told .given .1) ∙ r .load .ensures .0))
+    absurd (never-short (tables b) (replicate 233_472 0) plan-long (sym (c .enum-told .given .1) ∙ r .load .ensures .0))
 
 same-length : tie.Need-same-length
 same-length c = search needs
@@ -57,7 +56,7 @@ returns-3 c =
     let b = r .before .before .before .before .before .before .before in
     let a = b .args in
     prints-text (tables b) (a .out .now) (r .before .before .if1 .left) _ _
-    (put-as (refused-output (tables b) (replicate 233_472 0) (lit≤ tt) _ (sym (c .before .before .before .before .before .x .given .1) ∙ r .load .ensures .0)) (c .before .before .put-refusal .ensures))
+    (put-as (refused-output (tables b) (replicate 233_472 0) plan-long _ (sym (c .before .before .before .before .before .x .given .1) ∙ r .load .ensures .0)) (c .before .before .put-refusal .ensures))
 
 same-length-2 : tie.Need-same-length-2
 same-length-2 c = search needs
@@ -68,7 +67,7 @@ returns-4 c =
     let b = r .before .before .before .before .before .before .before in
     let a = b .args in
     prints-text (tables b) (a .out .now) (r .before .before .if1 .left) _ _
-    (held-output (tables b) (replicate 233_472 0) (lit≤ tt) (sym (c .before .before .before .before .before .enum-told2 .given .1) ∙ r .load .ensures .0) _ (r .load .ensures .1) (a .out .now) _ _ (c .before .before .put-timed .ensures))
+    (held-output (tables b) (replicate 233_472 0) plan-long (sym (c .before .before .before .before .before .enum-told2 .given .1) ∙ r .load .ensures .0) _ (r .load .ensures .1) (a .out .now) _ _ (c .before .before .put-timed .ensures))
 
 pub print-spec : {M : Type 1} → statement M
 print-spec =
