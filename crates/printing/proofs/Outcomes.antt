@@ -6,7 +6,7 @@ use mathlib.Core.Bool.{Bool, true, false}
 use mathlib.Core.List.{List, [], _∷_, _++_}
 use mathlib.Core.Option.{Option, none, some}
 use lib.Dec.{leb}
-use lib.ListN.{length, drop, replicate, length-append, length-replicate}
+use lib.ListN.{length, drop, length-append}
 use borrow.Author.Tests.{le-leb, lt-leb}
 use Rattle.words.specs.Words.{written}
 use Rattle.csv.specs.Text.{bytes}
@@ -104,10 +104,6 @@ abbrev refusal-of : Loaded → Refusal → Refusal
 refusal-of Loaded.Held x = x
 refusal-of Loaded.TooShort x = x
 refusal-of (Loaded.Refused r) x = r
-
--- the plan slice is long enough
-pub plan-long : 233_472 ≤ length (replicate {A = ℕ} 233_472 0)
-plan-long = omega (arith, length-replicate {A = ℕ} 233_472 0)
 
 module _ (ts : Tables) (before : List ℕ) (long : 233_472 ≤ length before) where
   -- the slice is long enough, so the tables are judged
