@@ -1,5 +1,5 @@
 -- What is printed for three tables, by what a load and a timetable say of them. Assumes nothing.
-use Prim.Native.Nat.{ℕ, zero, suc, _+_, _≤_, _<_}
+use Prim.Native.Nat.{ℕ, zero, suc, _≤_, _<_}
 use native.Mathlib.Omega.{arith}
 use mathlib.Core.Path.{_≡_, refl, ap, sym, _∙_, subst}
 use mathlib.Core.Bool.{Bool, true, false}
@@ -20,7 +20,7 @@ use Rattle.network.proofs.Judged.{judged}
 use Rattle.network.proofs.BoundStores.{front-stored}
 use Rattle.schedule.specs.Book.{first-book, replay}
 use Rattle.schedule.specs.Timetable.{Timetable, timetable}
-use Rattle.slice.specs.PlanSlice.{plan-need, plan-slice, Held, held}
+use Rattle.slice.specs.PlanSlice.{plan-slice, Held, held}
 use Rattle.slice.proofs.Slice.{held-slice}
 use Rattle.hegtalim.specs.declared.Loaded.{Loaded}
 use Rattle.hegtalim.specs.Outcomes.{Load, load-judged, load}

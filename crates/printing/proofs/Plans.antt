@@ -1,13 +1,12 @@
 -- The times of the plan that a slice holds, from its paths in an array. Assumes nothing.
-use Prim.Native.Nat.{ℕ, suc, _+_, _*_, _≤_}
+use Prim.Native.Nat.{ℕ, _+_, _*_, _≤_}
 use native.Mathlib.Omega.{arith}
-use mathlib.Core.Path.{_≡_, refl, ap, sym, _∙_, subst}
+use mathlib.Core.Path.{_≡_, ap, sym, _∙_, subst}
 use mathlib.Core.List.{List}
 use mathlib.Core.Option.{some, Option·some-injective}
 use lib.ListN.{length}
 use Rattle.words.proofs.Padding.{padded-length}
 use Rattle.floor.specs.Plan.{Plan}
-use Rattle.floor.specs.Paths.{steps}
 use Rattle.floor.proofs.Accepted.{Sound, Even, accepted-even}
 use Rattle.tables.specs.Arrays.{path-cells, paths-in}
 use Rattle.tables.proofs.PathTurns.{even-cells}
@@ -18,7 +17,7 @@ use Rattle.limits.proofs.Counts.{path-points, events-are}
 use Rattle.limits.proofs.LimitSteps.{all-events}
 use Rattle.slice.specs.PlanSlice.{Held, held}
 use Rattle.timing.specs.Bounding.{Holds}
-use Rattle.timing.proofs.Written.{p, ts, accepted-there, paths-there, some-steps}
+use Rattle.timing.proofs.Written.{accepted-there, paths-there, some-steps}
 use Rattle.printing.specs.Text.{times-text}
 use Rattle.printing.specs.Lines.{Put, lines-text}
 use Rattle.printing.proofs.Puts.{put-as}

@@ -1,13 +1,13 @@
 -- The text piece by piece is the text of `specs.Text`. Assumes nothing.
-use Prim.Native.Nat.{ℕ, zero, suc, _+_, _*_, _≤_, _<_}
+use Prim.Native.Nat.{ℕ, zero, suc, _+_, _≤_, _<_}
 use native.Mathlib.Omega.{arith}
-use mathlib.Core.Path.{_≡_, refl, ap, sym, _∙_}
-use mathlib.Core.List.{List, [], _∷_, _++_, append-assoc}
+use mathlib.Core.Path.{_≡_, refl}
+use mathlib.Core.List.{List, _++_, append-assoc}
 use lib.ListN.{length, length-append}
 use Rattle.csv.specs.Text.{bytes}
 use Rattle.floor.specs.declared.Table.{Table}
 use Rattle.floor.specs.Refusal.{table-number}
-use Rattle.printing.specs.Text.{shown, place-shown, refusal-text}
+use Rattle.printing.specs.Text.{place-shown, refusal-text}
 use Rattle.printing.specs.Lines.{field, ending, outer-line, paths-lines, lines-text}
 use Rattle.printing.proofs.Digits.{shown-most}
 use Rattle.printing.proofs.Fields.{field-length, ending-length}

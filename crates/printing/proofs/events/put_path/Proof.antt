@@ -1,9 +1,8 @@
 -- `printing::events::put_path` meets its contract: the line of the first cell, then three for each move. Assumes nothing.
-use Prim.Native.Nat.{ℕ, _+_, _-_, _≤_, _<_}
+use Prim.Native.Nat.{_-_, _<_}
 use native.Mathlib.Omega.{arith}
-use mathlib.Core.Path.{_≡_, _∙_}
+use mathlib.Core.Path.{_∙_}
 use mathlib.Core.Logic.{⊎-elim}
-use lib.ListN.{length, getD}
 use borrow.Author.Needs.{needs}
 use Rattle.words.specs.Words.{word-at}
 use Rattle.printing.proofs.Puts.{put-length}

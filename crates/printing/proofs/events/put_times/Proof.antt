@@ -1,6 +1,5 @@
 -- `printing::events::put_times` meets its contract: a first line, the start, the paths and the finish. Assumes nothing.
 use Prim.Native.Nat.{ℕ, _+_, _*_, _≤_}
-use native.Mathlib.Omega.{arith}
 use mathlib.Core.Path.{ap, sym, subst}
 use mathlib.Core.List.{List, _++_}
 use lib.ListN.{length}
