@@ -1,5 +1,4 @@
 -- `printing::put_output` meets its contract: the tables are refused, or a plan is held. Assumes nothing.
-use mathlib.Core.Path.{sym, _∙_}
 use Rattle.floor.specs.Tables.{Tables}
 use Rattle.printing.proofs.Puts.{put-as}
 use Rattle.printing.proofs.Outcomes.{never-short, refused-output, held-output}
@@ -36,7 +35,7 @@ returns : tie.Need-returns
 returns c =
     let r = c .before .before .before .before in
     let b = r .before .before .before .before .before .before .before in
-    absurd (never-short (tables b) (b .args .plan .now) (b .pre .1) (sym (c .enum-told .given .1) ∙ r .load .ensures .0))
+    absurd (never-short (tables b) (b .args .plan .now) (b .pre .1) (r .load .result) (c .enum-told .given .1) (r .load .ensures .0))
 
 same-length-2 : tie.Need-same-length-2
 same-length-2 c = search needs
@@ -48,7 +47,7 @@ returns-2 : tie.Need-returns-2
 returns-2 c =
     let r = c .before .before .before .before .before .before .before .before .before in
     let b = r .before .before .before .before .before .before .before in
-    put-as (refused-output (tables b) (b .args .plan .now) (b .pre .1) _ (sym (c .before .before .before .before .before .x .given .1) ∙ r .load .ensures .0)) (c .before .before .put-refusal .ensures)
+    put-as (refused-output (tables b) (b .args .plan .now) (b .pre .1) (r .load .result) _ (c .before .before .before .before .before .x .given .1) (r .load .ensures .0)) (c .before .before .put-refusal .ensures)
 
 same-length-4 : tie.Need-same-length-4
 same-length-4 c = search needs
@@ -60,7 +59,7 @@ returns-3 : tie.Need-returns-3
 returns-3 c =
     let r = c .before .before .before .before .before .before .before .before .before in
     let b = r .before .before .before .before .before .before .before in
-    held-output (tables b) (b .args .plan .now) (b .pre .1) (sym (c .before .before .before .before .before .enum-told2 .given .1) ∙ r .load .ensures .0) _ (r .load .ensures .1) (b .args .out .now) _ _ (c .before .before .put-timed .ensures)
+    held-output (tables b) (b .args .plan .now) (b .pre .1) (r .load .result) (c .before .before .before .before .before .enum-told2 .given .1) (r .load .ensures .0) _ (r .load .ensures .1) (b .args .out .now) _ _ (c .before .before .put-timed .ensures)
 
 pub put-output-spec : {M : Type 1} → statement M
 put-output-spec =
