@@ -1,12 +1,12 @@
 -- What is printed for three tables, by what a load and a timetable say of them. Assumes nothing.
-use Prim.Native.Nat.{ℕ, zero, suc, _+_, _≤_, _<_}
+use Prim.Native.Nat.{ℕ, zero, suc, _≤_, _<_}
 use native.Mathlib.Omega.{arith}
 use mathlib.Core.Path.{_≡_, refl, ap, sym, _∙_, subst}
 use mathlib.Core.Bool.{Bool, true, false}
 use mathlib.Core.List.{List, [], _∷_, _++_}
 use mathlib.Core.Option.{Option, none, some}
 use lib.Dec.{leb}
-use lib.ListN.{length, drop, replicate, length-append, length-replicate}
+use lib.ListN.{length, drop, length-append}
 use borrow.Author.Tests.{le-leb, lt-leb}
 use Rattle.words.specs.Words.{written}
 use Rattle.csv.specs.Text.{bytes}
@@ -20,7 +20,7 @@ use Rattle.network.proofs.Judged.{judged}
 use Rattle.network.proofs.BoundStores.{front-stored}
 use Rattle.schedule.specs.Book.{first-book, replay}
 use Rattle.schedule.specs.Timetable.{Timetable, timetable}
-use Rattle.slice.specs.PlanSlice.{plan-need, plan-slice, Held, held}
+use Rattle.slice.specs.PlanSlice.{plan-slice, Held, held}
 use Rattle.slice.proofs.Slice.{held-slice}
 use Rattle.hegtalim.specs.declared.Loaded.{Loaded}
 use Rattle.hegtalim.specs.Outcomes.{Load, load-judged, load}
@@ -105,10 +105,6 @@ refusal-of Loaded.Held x = x
 refusal-of Loaded.TooShort x = x
 refusal-of (Loaded.Refused r) x = r
 
--- the plan slice is long enough
-pub plan-long : 233_472 ≤ length (replicate {A = ℕ} 233_472 0)
-plan-long = omega (arith, length-replicate {A = ℕ} 233_472 0)
-
 module _ (ts : Tables) (before : List ℕ) (long : 233_472 ≤ length before) where
   -- the slice is long enough, so the tables are judged
   loads : load ts before ≡ load-judged ts (length before) (judge ts)
@@ -116,31 +112,31 @@ module _ (ts : Tables) (before : List ℕ) (long : 233_472 ≤ length before) wh
   loads = ap (λ (b : Bool). elim b as (λ _. Load) [ false ↦ record { answer = Loaded.TooShort; plan = before } | true ↦ load-judged ts (length before) (judge ts) ]) (le-leb 233_472 (length before) long)
 
   -- never that it is too short
-  pub never-short : Loaded.TooShort ≡ load ts before .answer → ⊥
+  pub never-short : (x : Loaded) → x ≡ Loaded.TooShort → x ≡ load ts before .answer → ⊥
   unfolding load-judged
-  never-short e = by (judge ts) (e ∙ ap (λ (x : Load). x .answer) loads)
+  never-short x q e = by (judge ts) (sym q ∙ e ∙ ap (λ (x : Load). x .answer) loads)
     where
       by : (j : Judged Plan) → Loaded.TooShort ≡ load-judged ts (length before) j .answer → ⊥
       by (refused r) q = let z : _≡_ {A = ℕ} 1 2 = ap case-of q in omega arith
       by (accepted p) q = let z : _≡_ {A = ℕ} 1 0 = ap case-of q in omega arith
 
   -- a refusal
-  pub refused-output : (r : Refusal) → Loaded.Refused r ≡ load ts before .answer
+  pub refused-output : (x : Loaded) (r : Refusal) → x ≡ Loaded.Refused r → x ≡ load ts before .answer
       → refusal-text (reason-number (r .reason)) (table-number (r .table)) (r .row) ≡ output ts
   unfolding load-judged output judged-output
-  refused-output r e = by (judge ts) (e ∙ ap (λ (x : Load). x .answer) loads)
+  refused-output x r q e = by (judge ts) (sym q ∙ e ∙ ap (λ (x : Load). x .answer) loads)
     where
       by : (j : Judged Plan) → Loaded.Refused r ≡ load-judged ts (length before) j .answer
           → refusal-text (reason-number (r .reason)) (table-number (r .table)) (r .row) ≡ judged-output j
-      by (refused x) q = ap (λ (y : Refusal). refusal-text (reason-number (y .reason)) (table-number (y .table)) (y .row)) (ap (λ (y : Loaded). refusal-of y r) q)
-      by (accepted p) q = absurd (let z : _≡_ {A = ℕ} 2 0 = ap case-of q in omega arith)
+      by (refused y) z = ap (λ (y : Refusal). refusal-text (reason-number (y .reason)) (table-number (y .table)) (y .row)) (ap (λ (y : Loaded). refusal-of y r) z)
+      by (accepted p) z = absurd (let n : _≡_ {A = ℕ} 2 0 = ap case-of z in omega arith)
 
   -- a plan held: what is put of it is the output
-  pub held-output : Loaded.Held ≡ load ts before .answer → (plan : List ℕ) → plan ≡ load ts before .plan → (out t : List ℕ) (k : ℕ)
+  pub held-output : (x : Loaded) → x ≡ Loaded.Held → x ≡ load ts before .answer → (plan : List ℕ) → plan ≡ load ts before .plan → (out t : List ℕ) (k : ℕ)
       → ((h : Held) → held plan ≡ some h → Put out 0 (timed-output (h .plan) (timetable (h .plan) (h .book))) t k) → Put out 0 (output ts) t k
   unfolding output judged-output replay
-  held-output e plan q out t k put =
-      let (p, _, j) = load-held ts before (sym e) in
+  held-output x h e plan q out t k put =
+      let (p, _, j) = load-held ts before (sym e ∙ h) in
       let is : plan ≡ plan-slice (length before) ts [] = q ∙ ap (λ (x : Load). x .plan) (load-accepted ts before p long j) in
       let there : held plan ≡ some (record { tables = ts; log = []; plan = p; book = first-book p }) =
       ap held is ∙ held-slice (length before) ts p [] (first-book p) long j refl in

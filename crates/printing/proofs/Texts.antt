@@ -1,14 +1,15 @@
 -- The text piece by piece is the text of `specs.Text`. Assumes nothing.
-use Prim.Native.Nat.{ℕ, zero, suc, _+_, _*_, _≤_, _<_}
+use Prim.Native.Nat.{ℕ, zero, suc, _+_, _≤_, _<_}
 use native.Mathlib.Omega.{arith}
-use mathlib.Core.Path.{_≡_, refl, ap, sym, _∙_}
-use mathlib.Core.List.{List, [], _∷_, _++_, append-assoc}
+use mathlib.Core.Path.{_≡_, refl, ap, sym, subst}
+use mathlib.Core.List.{List, _++_, append-assoc}
 use lib.ListN.{length, length-append}
 use Rattle.csv.specs.Text.{bytes}
 use Rattle.floor.specs.declared.Table.{Table}
 use Rattle.floor.specs.Refusal.{table-number}
-use Rattle.printing.specs.Text.{shown, place-shown, refusal-text}
-use Rattle.printing.specs.Lines.{field, ending, outer-line, paths-lines, lines-text}
+use Rattle.printing.specs.Text.{place-shown, refusal-text}
+use Rattle.printing.specs.Lines.{Put, field, ending, outer-line, paths-lines, lines-text}
+use Rattle.printing.proofs.Puts.{put-as}
 use Rattle.printing.proofs.Digits.{shown-most}
 use Rattle.printing.proofs.Fields.{field-length, ending-length}
 
@@ -63,3 +64,11 @@ pub times-room : (time : ℕ → ℕ) (n : ℕ) (ps : List (List ℕ)) (s : List
     → 0 + length (times-line ++ (outer-line time 0 ++ (paths-lines time 1 1 ps ++ outer-line time n))) ≤ length s
 unfolding lines-text
 times-room time n ps s h = omega arith
+
+-- the finish's number by another name: room for its line
+pub outer-room : (time : ℕ → ℕ) (n m k : ℕ) (s : List ℕ) → m ≡ n → k + length (outer-line time n) ≤ length s → k + length (outer-line time m) ≤ length s
+outer-room time n m k s e h = subst (λ (x : ℕ). k + length (outer-line time x) ≤ length s) (sym e) h
+
+-- and the line put
+pub outer-put : (time : ℕ → ℕ) (n m : ℕ) → m ≡ n → {s : List ℕ} {at : ℕ} {t : List ℕ} {k : ℕ} → Put s at (outer-line time m) t k → Put s at (outer-line time n) t k
+outer-put time n m e p = put-as (ap (outer-line time) e) p

@@ -3,8 +3,8 @@ use Prim.Native.Nat.{ℕ, _^_, _≤_, _<_}
 use native.Mathlib.Omega.{arith}
 use mathlib.Core.Path.{_≡_, refl, ap, sym, _∙_, subst}
 use mathlib.Core.Bool.{true, true≢false}
-use mathlib.Core.List.{List, _++_}
-use mathlib.Core.Option.{Option, none, some, Option·none-ne-some, Option·some-injective}
+use mathlib.Core.List.{List}
+use mathlib.Core.Option.{none, some, Option·none-ne-some, Option·some-injective}
 use lib.Dec.{lit≤}
 use lib.ListN.{length, drop, getD, replicate, length-replicate}
 use Rattle.words.specs.Words.{words, word-at, written}

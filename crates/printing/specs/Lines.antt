@@ -1,6 +1,6 @@
 -- The same text piece by piece, as the code puts it into a slice, from paths in an array; that it is the text of `specs.Text` is shown in `proofs.Texts`.
 -- Assumes nothing.
-use Prim.Native.Nat.{ℕ, suc, _+_}
+use Prim.Native.Nat.{ℕ, _+_}
 use mathlib.Core.Path.{_≡_}
 use mathlib.Core.Bool.{cond}
 use mathlib.Core.List.{List, [], _∷_, _++_}

@@ -16,7 +16,7 @@ ghost use Rattle.schedule.specs.Timetable.{timetable};
 ghost use Rattle.slice.specs.PlanSlice.{Held, held};
 ghost use Rattle.printing.specs.Text.{times-text, refusal-text};
 ghost use Rattle.printing.specs.Lines.{Put};
-ghost use Rattle.printing.specs.Output.{timed-output, print};
+ghost use Rattle.printing.specs.Output.{timed-output, output, print};
 
 // What is answered: how many bytes are printed.
 pub enum Printed {
@@ -80,6 +80,19 @@ fn put_timed(out: &mut [u8], plan: &[u8]) -> usize
     }
 }
 
+// Puts what three tables come to: the refusal, or what a timetable finds of their plan, which is held in a slice lent for that.
+fn put_output(out: &mut [u8], roads: &[u8], carts: &[u8], paths: &[u8], plan: &mut [u8]) -> usize
+    requires { ⌜ (348245 ≤ length (now out)) × (233472 ≤ length (now plan)) ⌝ }
+    ensures { λ r. ⌜ Put (now (out .entry)) 0 (output (record { roads = now (roads .entry); carts = now (carts .entry); paths = now (paths .entry) })) (now (out .exit)) r ⌝ }
+{
+    let x = hegtalim::load(roads, carts, paths, plan);
+    match x {
+        Loaded::TooShort => 0,
+        Loaded::Refused(why) => put_refusal(out, why),
+        Loaded::Held => put_timed(out, plan),
+    }
+}
+
 // Prints the times of the plan that three tables come to, or the refusal.
 pub fn print(roads: &[u8], carts: &[u8], paths: &[u8], out: &mut [u8]) -> Printed
     ensures answer { λ r. ⌜ r ≡ print (record { roads = now (roads .entry); carts = now (carts .entry); paths = now (paths .entry) }) (now (out .entry)) .answer ⌝ }
@@ -89,10 +102,5 @@ pub fn print(roads: &[u8], carts: &[u8], paths: &[u8], out: &mut [u8]) -> Printe
         return Printed::TooShort;
     }
     let mut plan = [0u8; 233472];
-    let x = hegtalim::load(roads, carts, paths, &mut plan);
-    match x {
-        Loaded::TooShort => Printed::TooShort,
-        Loaded::Refused(why) => Printed::Bytes(put_refusal(out, why)),
-        Loaded::Held => Printed::Bytes(put_timed(out, &plan)),
-    }
+    Printed::Bytes(put_output(out, roads, carts, paths, &mut plan))
 }

@@ -1,6 +1,5 @@
 // Bytes, numbers and lines put into a slice, one behind the other. Each function returns the place behind what it puts.
-ghost use mathlib.Core.List.{[], _∷_};
-ghost use Prim.Native.Nat.{_+_, _≤_, _<_};
+ghost use Prim.Native.Nat.{_+_, _≤_};
 ghost use lib.ListN.{length};
 ghost use Rattle.words.specs.Words.{word-at};
 ghost use Rattle.printing.specs.Text.{shown};

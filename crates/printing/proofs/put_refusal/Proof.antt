@@ -1,6 +1,6 @@
 -- `printing::put_refusal` meets its contract: a first line and three fields. Assumes nothing.
 use Prim.Native.Nat.{ℕ, _+_, _≤_}
-use mathlib.Core.Path.{refl, ap, sym, subst}
+use mathlib.Core.Path.{ap, sym, subst}
 use lib.ListN.{length}
 use Rattle.csv.specs.Text.{bytes}
 use Rattle.floor.specs.Refusal.{reason-number, table-number}

@@ -1,11 +1,16 @@
 -- `printing::put_timed` meets its contract: refusal 13, or the times. Assumes nothing.
 use mathlib.Core.Path.{_∙_}
 use Rattle.csv.specs.Text.{bytes}
+use Rattle.schedule.specs.Lent.{Lent}
 use Rattle.printing.proofs.Puts.{put-as}
 use Rattle.printing.proofs.Timings.{none-text, never-short, never-none, none-said, times-said}
 use borrow.Author.Needs.{needs}
 use Rattle.printing.proofs.put_timed.Statement.{statement}
 use Rattle.printing.proofs.put_timed.Tie as tie
+
+-- the slices as the timetable left them
+abbrev left : tie.After-timetable → Lent
+left r = record { times = r .timetable .last .1 .0; chain-bounds = r .timetable .last .1 .1 .0; chain-directions = r .timetable .last .1 .1 .1 .0 }
 
 slice-aggregate-timetable : tie.Need-slice-aggregate-timetable
 slice-aggregate-timetable c = search needs
@@ -48,14 +53,14 @@ returns c h e =
     let r = c .before .before .before .before .before in
     let b = r .before .before .before .before .before .before in
     let a = b .args in
-    absurd (never-short (a .plan .now) (b .pre .1) _ _ (r .timetable .ensures) (c .enum-told .given .1))
+    absurd (never-short (a .plan .now) (b .pre .1) (r .timetable .result) (left r) (r .timetable .ensures) (c .enum-told .given .1))
 
 returns-2 : tie.Need-returns-2
 returns-2 c h e =
     let r = c .before .before .before .before .before in
     let b = r .before .before .before .before .before .before in
     let a = b .args in
-    absurd (never-none (a .plan .now) (b .pre .1) h e _ _ (r .timetable .ensures) (c .enum-told2 .given .1))
+    absurd (never-none (a .plan .now) (b .pre .1) h e (r .timetable .result) (left r) (r .timetable .ensures) (c .enum-told2 .given .1))
 
 same-length : tie.Need-same-length
 same-length c = search needs
@@ -66,7 +71,7 @@ returns-3 c h e =
     let r = c .before .before .before .before .before .before .before .before .before .before in
     let b = r .before .before .before .before .before .before in
     let a = b .args in
-    put-as (none-text ∙ none-said (a .plan .now) (b .pre .1) h e _ _ (r .timetable .ensures) _ (c .before .before .before .before .before .enum-told3 .given .1)) (c .before .before .put-text .ensures)
+    put-as (none-text ∙ none-said (a .plan .now) (b .pre .1) h e (r .timetable .result) (left r) (r .timetable .ensures) _ (c .before .before .before .before .before .enum-told3 .given .1)) (c .before .before .put-text .ensures)
 
 same-length-2 : tie.Need-same-length-2
 same-length-2 c = search needs
@@ -76,7 +81,7 @@ returns-4 c h e =
     let r = c .before .before .before .before .before .before .before .before .before .before in
     let b = r .before .before .before .before .before .before in
     let a = b .args in
-    put-as (times-said (a .plan .now) (b .pre .1) h e _ _ (r .timetable .ensures) _ (c .before .before .before .before .before .enum-told4 .given .1)) (c .before .before .put-plan .ensures h e)
+    put-as (times-said (a .plan .now) (b .pre .1) h e (r .timetable .result) (left r) (r .timetable .ensures) _ (c .before .before .before .before .before .enum-told4 .given .1)) (c .before .before .put-plan .ensures h e)
 
 pub put-timed-spec : {M : Type 1} → statement M
 put-timed-spec =

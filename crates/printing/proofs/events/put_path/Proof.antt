@@ -1,10 +1,11 @@
 -- `printing::events::put_path` meets its contract: the line of the first cell, then three for each move. Assumes nothing.
-use Prim.Native.Nat.{ℕ, _+_, _-_, _≤_, _<_}
+use Prim.Native.Nat.{_-_, _<_}
 use native.Mathlib.Omega.{arith}
-use mathlib.Core.Path.{_≡_, _∙_}
+use mathlib.Core.Path.{_∙_}
 use mathlib.Core.Logic.{⊎-elim}
-use lib.ListN.{length, getD}
 use borrow.Author.Needs.{needs}
+use lib.ListN.{getD}
+use Rattle.printing.specs.Lines.{point-line}
 use Rattle.words.specs.Words.{word-at}
 use Rattle.printing.proofs.Puts.{put-length}
 use Rattle.printing.proofs.PathSteps.{OnPath, on-first, first-room, on-last, on-room, on-wait, on-move}
@@ -89,7 +90,7 @@ same-length c =
     let p = l .before .before .before in
     let b = p .before .before .before .before .before .before in
     let a = b .args in
-    l .loop .inv .putting .long ∙ put-length (p .put-point .ensures)
+    l .loop .inv .putting .long ∙ put-length {a = point-line (word-at 8 (a .times .now)) (a .e) (a .j) (getD (a .cells .now) (a .at) 0)} (p .put-point .ensures)
 
 returns : tie.Need-returns Inv-loop μ-loop
 returns c =

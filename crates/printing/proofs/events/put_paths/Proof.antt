@@ -1,7 +1,6 @@
 -- `printing::events::put_paths` meets its contract: one path after the other. Assumes nothing.
-use Prim.Native.Nat.{_+_, _-_, _≤_, _<_}
+use Prim.Native.Nat.{_-_, _<_}
 use native.Mathlib.Omega.{arith}
-use lib.ListN.{length}
 use borrow.Author.Needs.{needs}
 use Rattle.words.specs.Words.{word-at}
 use Rattle.printing.proofs.CartSteps.{OnCarts, carts-first, carts-last, path-there, path-few, path-room, carts-next}

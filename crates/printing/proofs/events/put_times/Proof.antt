@@ -1,16 +1,13 @@
 -- `printing::events::put_times` meets its contract: a first line, the start, the paths and the finish. Assumes nothing.
-use Prim.Native.Nat.{ℕ, _+_, _*_, _≤_}
-use native.Mathlib.Omega.{arith}
-use mathlib.Core.Path.{ap, sym, subst}
+use Prim.Native.Nat.{ℕ, _+_, _*_}
 use mathlib.Core.List.{List, _++_}
-use lib.ListN.{length}
 use Rattle.words.specs.Words.{word-at}
 use Rattle.csv.specs.Text.{bytes}
 use Rattle.tables.specs.Arrays.{paths-in}
 use Rattle.limits.specs.Counts.{total, moves}
 use Rattle.printing.specs.Lines.{outer-line, paths-lines, lines-text}
-use Rattle.printing.proofs.Puts.{put-then, put-as, room-first, four-2, four-3, four-4}
-use Rattle.printing.proofs.Texts.{times-line, times-room}
+use Rattle.printing.proofs.Puts.{put-then, room-first, four-2, four-3, four-4}
+use Rattle.printing.proofs.Texts.{times-line, times-room, outer-room, outer-put}
 use borrow.Author.Needs.{needs}
 use Rattle.printing.proofs.events.put_times.Statement.{statement}
 use Rattle.printing.proofs.events.put_times.Tie as tie
@@ -58,7 +55,7 @@ put-outer-requires-2 c κs =
     let a = b .args in
     let ps : List (List ℕ) = paths-in (a .carts) (a .steps) (a .cells .now) in
     let n : ℕ = 1 + a .carts + 3 * total moves ps in
-    subst (λ (x : ℕ). r .put-paths .result .place + length (outer-line (word-at 8 (a .times .now)) x) ≤ length (r .put-paths .last .0)) (sym (r .put-paths .ensures .1))
+    outer-room (word-at 8 (a .times .now)) n (r .put-paths .result .event) (r .put-paths .result .place) (r .put-paths .last .0) (r .put-paths .ensures .1)
     (four-4 (a .out .now) 0 times-line (outer-line (word-at 8 (a .times .now)) 0) (paths-lines (word-at 8 (a .times .now)) 1 1 ps) (outer-line (word-at 8 (a .times .now)) n) (times-room (word-at 8 (a .times .now)) n ps (a .out .now) (b .pre .1 .1)) (p .put-text .ensures) (q .put-outer .ensures) (r .put-paths .ensures .0))
 
 same-length : tie.Need-same-length
@@ -75,8 +72,10 @@ returns c =
     let a = b .args in
     let ps : List (List ℕ) = paths-in (a .carts) (a .steps) (a .cells .now) in
     let n : ℕ = 1 + a .carts + 3 * total moves ps in
-    let last = put-as (ap (outer-line (word-at 8 (a .times .now))) (r .put-paths .ensures .1)) (e .put-outer2 .ensures) in
-    put-then {a = times-line} (p .put-text .ensures) (put-then (q .put-outer .ensures) (put-then (r .put-paths .ensures .0) last))
+    let last = outer-put (word-at 8 (a .times .now)) n (r .put-paths .result .event) (r .put-paths .ensures .1) (e .put-outer2 .ensures) in
+    put-then {a = times-line} (p .put-text .ensures)
+    (put-then {a = outer-line (word-at 8 (a .times .now)) 0} (q .put-outer .ensures)
+    (put-then {a = paths-lines (word-at 8 (a .times .now)) 1 1 ps} (r .put-paths .ensures .0) last))
 
 pub put-times-spec : {M : Type 1} → statement M
 put-times-spec =

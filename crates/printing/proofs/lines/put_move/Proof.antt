@@ -50,7 +50,9 @@ returns c =
     let r = c .before .before in
     let q = r .before .before .before .before in
     let p = q .before .before .before .before in
-    put-then (p .put-point .ensures) (put-then (q .put-point2 .ensures) (r .put-point3 .ensures))
+    let a = p .before .before .before .before .args in
+    let line : ℕ → ℕ → List ℕ = λ n x. point-line (word-at 8 (a .times .now)) n (a .j) x in
+    put-then {a = line (a .e) (a .from)} (p .put-point .ensures) (put-then {a = line (a .e + 1) (a .to)} (q .put-point2 .ensures) (r .put-point3 .ensures))
 
 pub put-move-spec : {M : Type 1} → statement M
 put-move-spec =

@@ -1,9 +1,7 @@
 -- `printing::lines::put_text` meets its contract: the bytes from the i-th on are still to be put. Assumes nothing.
-use Prim.Native.Nat.{ℕ, _+_, _-_, _≤_}
+use Prim.Native.Nat.{_+_, _-_, _≤_}
 use native.Mathlib.Omega.{arith}
-use mathlib.Core.Path.{_≡_, refl, ap}
-use mathlib.Core.List.{List, [], _∷_}
-use lib.ListN.{length, drop, getD, drop-of-length-le}
+use lib.ListN.{length, drop, drop-of-length-le}
 use Rattle.printing.proofs.Puts.{Putting, put-all, text-none, text-one}
 use borrow.Author.Needs.{needs}
 use Rattle.printing.proofs.lines.put_text.Statement.{statement}
