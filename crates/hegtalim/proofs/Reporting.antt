@@ -22,7 +22,7 @@ use Rattle.slice.specs.HeldPlan.{log-of, Holds}
 use Rattle.slice.proofs.Slice.{slice-at-least, judged-fit, replayed-fits, held-says}
 use Rattle.slice.proofs.Laid.{rest-of}
 use Rattle.slice.proofs.Entries.{entry-added}
-use Rattle.slice.proofs.HeldPlan.{sound, checked-there, no-plan, held-there, short-slice, long-slice}
+use Rattle.slice.proofs.HeldPlan.{sound, checked-there, case-of, no-plan, held-there, short-slice, long-slice}
 use Rattle.hegtalim.specs.declared.Reported.{Reported}
 use Rattle.hegtalim.specs.Answers.{plain, reported-answer, c-number}
 use Rattle.hegtalim.specs.Outcomes.{Reporting, book-answer, report-held, report}
@@ -81,12 +81,6 @@ module _ (s : List ℕ) (c t : ℕ) (x : Holding) (is : x ≡ plan-into s (repli
   short-plan q =
       leaves s r (record { answer = Reported.TooShort; plan = s })
       (ap (λ (b : Bool). elim b [ false ↦ record { answer = Reported.TooShort; plan = s } | true ↦ report-held s r (held s) ]) (lt-leb plan-need (length s) (short-slice s x is q)))
-
-  -- which case it is
-  abbrev case-of : Holding → ℕ
-  case-of Holding.TooShort = 0
-  case-of Holding.NoPlan = 1
-  case-of (Holding.Held a b d e) = 2
 
   -- it holds no plan
   pub none-held : x ≡ Holding.NoPlan → Leaves s r Reported.NoPlan s

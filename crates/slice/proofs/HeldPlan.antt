@@ -155,7 +155,7 @@ module _ (s edges speeds cells : List ℕ) (roads carts w reports : ℕ) (h : Ho
 -- ---- what the reader says
 
 -- which case it is
-abbrev case-of : Holding → ℕ
+abbrev pub case-of : Holding → ℕ
 case-of Holding.TooShort = 0
 case-of Holding.NoPlan = 1
 case-of (Holding.Held a c w n) = 2
