@@ -59,7 +59,7 @@ static int load(const char *folder) {
     read_table(folder, "paths.csv", &paths);
     uint64_t answer =
         hegtalim_load(roads.bytes, roads.length, carts.bytes, carts.length, paths.bytes, paths.length, plan, sizeof plan);
-    if (HEGTALIM_REFUSAL(answer) == 0) {
+    if (HEGTALIM_REFUSAL(answer) == HEGTALIM_ACCEPTED) {
         printf("load: held\n");
         return 1;
     }
@@ -107,10 +107,10 @@ static void print_timetable(void) {
     uint64_t answer = hegtalim_timetable(plan, sizeof plan, times, sizeof times, chain_bounds, sizeof chain_bounds, chain_directions,
                                          sizeof chain_directions);
     switch (HEGTALIM_REFUSAL(answer)) {
-    case 0:
+    case HEGTALIM_ACCEPTED:
         print_times(HEGTALIM_VALUE(answer));
         break;
-    case 13:
+    case HEGTALIM_NO_TIMES:
         print_chain(HEGTALIM_VALUE(answer));
         break;
     default: /* 10 or 14: not with these slices, after a load that was accepted */
@@ -156,7 +156,7 @@ static void play(const char *name) {
     while (read_report(name, file, &cart, &time)) {
         unsigned refusal = HEGTALIM_REFUSAL(hegtalim_report(plan, sizeof plan, cart, time));
         printf("report: cart %llu at %llu: ", (unsigned long long)cart, (unsigned long long)time);
-        if (refusal != 0) {
+        if (refusal != HEGTALIM_ACCEPTED) {
             printf("refused, %u\n", refusal);
             continue;
         }

@@ -29,10 +29,29 @@ extern "C" {
 #define HEGTALIM_MOST_TIME UINT64_C(1000000000000)
 
 /* The parts of a call's answer. */
-#define HEGTALIM_REFUSAL(answer) ((unsigned)((answer) & 0xff))    /* 0: none */
+#define HEGTALIM_REFUSAL(answer) ((unsigned)((answer) & 0xff))    /* 0: none; enum hegtalim_refusal */
 #define HEGTALIM_TABLE(answer) ((unsigned)((answer) >> 8 & 0xff)) /* 1 roads, 2 carts, 3 paths, 0 none */
 /* A load's record: from 1, without the first line; 0 none. A timetable's number of passes, or of its chain's items (13). */
 #define HEGTALIM_VALUE(answer) ((uint32_t)((answer) >> 32))
+
+/* The refusals. 1 to 9 come from a load and name the table, 10 to 12 from the state, 13 from a timetable alone, 14 from any call. */
+enum hegtalim_refusal {
+    HEGTALIM_ACCEPTED = 0,
+    HEGTALIM_LAYOUT = 1,      /* a byte, field count, number form or first line (record 0) breaks the layout */
+    HEGTALIM_RANGE = 2,       /* a number is outside its range */
+    HEGTALIM_ROAD_PAIR = 3,   /* a road from a cell to itself, or a second road for a pair */
+    HEGTALIM_LIMIT = 4,       /* a count is over its limit, at the record that first passes it; for bytes, events and bounds record 0 */
+    HEGTALIM_NO_CARTS = 5,    /* no carts (table 2, record 0) */
+    HEGTALIM_PATH_COUNT = 6,  /* paths and carts differ in count (table 3, record 0) */
+    HEGTALIM_OFF_ROAD = 7,    /* two successive cells are neither equal nor joined by a road */
+    HEGTALIM_SAME_CELL = 8,   /* two carts are in one cell at one step: the higher record of the two */
+    HEGTALIM_EXCHANGE = 9,    /* two carts exchange cells in one step: the higher record of the two */
+    HEGTALIM_NO_PLAN = 10,    /* the plan slice holds bytes that no accepted load, with accepted reports since, leaves */
+    HEGTALIM_NO_POINT = 11,   /* no such cart, or it has passed all its points */
+    HEGTALIM_BAD_TIME = 12,   /* a time below the clock or over 10^12 */
+    HEGTALIM_NO_TIMES = 13,   /* no times exist; the value is the length of the chain */
+    HEGTALIM_TOO_SHORT = 14   /* a slice is shorter than its need */
+};
 
 /* Loads a plan: reads the bytes of roads.csv, carts.csv and paths.csv and judges them.
    Refusal 0: the plan slice holds the plan. 14: it is too short, and is as it came. 1 to 9: it is zero, every byte. */
