@@ -26,14 +26,19 @@ is-held Loaded.Held = true
 is-held Loaded.TooShort = false
 is-held (Loaded.Refused r) = false
 
--- a load of accepted tables, into a slice that is long enough
-pub load-accepted : (ts : Tables) (before : List ℕ) (p : Plan) → plan-need ≤ length before → judge ts ≡ accepted p
-    → load ts before ≡ record { answer = Loaded.Held; plan = plan-slice (length before) ts [] }
-unfolding load load-judged
-load-accepted ts before p h e =
+-- a load into a slice that is long enough goes by how the tables are judged
+pub load-on : (ts : Tables) (before : List ℕ) (j : Judged Plan) → plan-need ≤ length before → judge ts ≡ j → load ts before ≡ load-judged ts (length before) j
+unfolding load
+load-on ts before j h e =
     ap (λ (t : Bool). elim t [ false ↦ record { answer = Loaded.TooShort; plan = before } | true ↦ load-judged ts (length before) (judge ts) ])
     (passes (leb plan-need (length before)) (le→leb plan-need (length before) h))
     ∙ ap (load-judged ts (length before)) e
+
+-- that of accepted tables
+pub load-accepted : (ts : Tables) (before : List ℕ) (p : Plan) → plan-need ≤ length before → judge ts ≡ accepted p
+    → load ts before ≡ record { answer = Loaded.Held; plan = plan-slice (length before) ts [] }
+unfolding load-judged
+load-accepted ts before p h e = load-on ts before (accepted p) h e
 
 -- only that is answered Held
 pub load-held : (ts : Tables) (before : List ℕ) → load ts before .answer ≡ Loaded.Held

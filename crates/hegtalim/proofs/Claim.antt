@@ -1,6 +1,5 @@
 -- The claim about whole lists of calls: demand 3, over the outcomes. Assumes nothing.
 use Prim.Native.Nat.{ℕ, _^_, _≤_, _<_}
-use native.Mathlib.Omega.{arith}
 use mathlib.Core.Path.{_≡_, refl, ap, sym, _∙_, subst}
 use mathlib.Core.Logic.{_↔_, _≢_}
 use mathlib.Core.Bool.{Bool, true, false, cond}
@@ -26,7 +25,8 @@ use Rattle.schedule.proofs.Log.{replay-snoc}
 use Rattle.schedule.proofs.Logged.{Logged}
 use Rattle.schedule.proofs.Chains.{ChainWithin}
 use Rattle.schedule.proofs.ChainSizes.{chain-numbers}
-use Rattle.schedule.proofs.Times.{timetable-earliest, timetable-counted, timetable-length, timetable-range, no-timetable-chain, no-timetable-none-fit}
+use Rattle.schedule.proofs.Lent.{times-back}
+use Rattle.schedule.proofs.Times.{timetable-earliest, timetable-counted, no-timetable-chain, no-timetable-none-fit}
 use Rattle.hegtalim.specs.declared.Timed.{Timed}
 use Rattle.slice.specs.PlanSlice.{plan-need, plan-slice, Held, held}
 use Rattle.schedule.specs.Lent.{Lent, long-enough, times-written, chain-written}
@@ -152,16 +152,14 @@ module _ (ts : Tables) (p : Plan) where
   -- ---- the timetable after the list
 
   -- the times written are read back
-  times-back : (b : Book) (k : Logged p b) (t : Timetable) → timetable p b ≡ some t → (l : Lent) (v : ℕ) → v < event-count p
+  times-read : (b : Book) (k : Logged p b) (t : Timetable) → timetable p b ≡ some t → (l : Lent) (v : ℕ) → v < event-count p
       → times-in (times-written t l .times) v ≡ pos (getD (t .times) v 0)
-  unfolding times-in times-written written
-  times-back b k t e l v h =
-      let few : getD (t .times) v 0 ≤ 4_096_000_000_000_000 = timetable-range p b k t e v h in
-      ap pos (word-at-words 8 (t .times) (drop (length (words 8 (t .times))) (l .times)) v (subst (λ (x : ℕ). v < x) (sym (timetable-length p b k t e)) h) (omega (arith, few)))
+  unfolding times-in
+  times-read b k t e l v h = ap pos (times-back p b k t e l v h)
 
   earliest : (b : Book) → Logged p b → (t : Timetable) → timetable p b ≡ some t → (l : Lent) → Earliest p b (times-in (times-written t l .times)) (t .passes)
   earliest b k t e l =
-      let (fits, least) = timetable-earliest p b k t e (times-in (times-written t l .times)) (times-back b k t e l) in
+      let (fits, least) = timetable-earliest p b k t e (times-in (times-written t l .times)) (times-read b k t e l) in
       let (counted, below) = timetable-counted p b k t e in
       record { fits = fits; earliest = least; counted = counted; below = below }
 

@@ -10,11 +10,9 @@ use mathlib.Core.Path.{_≡_, sym, _∙_, subst}
 use mathlib.Core.List.{List}
 use Rattle.floor.specs.Tables.{Tables}
 use Rattle.schedule.specs.Book.{Report, _at_}
-use Rattle.schedule.specs.Lent.{Lent}
 use Rattle.hegtalim.specs.declared.Loaded.{Loaded}
 use Rattle.hegtalim.specs.declared.Reported.{Reported}
-use Rattle.hegtalim.specs.declared.Timed.{Timed}
-use Rattle.hegtalim.specs.Outcomes.{load, report, Timetabled}
+use Rattle.hegtalim.specs.Outcomes.{report, Timetabled}
 use Rattle.hegtalim.specs.Claim.{Call, reporting, timing, Reply, reported, timed, Replies, to-report, to-timetable, Played, Holds}
 use Rattle.hegtalim.proofs.Claim.{demand-3}
 use Rattle.hegtalim.proofs.load as load-fn

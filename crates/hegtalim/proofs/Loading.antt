@@ -5,7 +5,7 @@ use mathlib.Core.Bool.{Bool, true, false, true≢false}
 use mathlib.Core.Option.{Option, none, some, Option·some-injective, Option·some-ne-none, Option·none-ne-some}
 use mathlib.Core.List.{List, []}
 use lib.ListN.{length, replicate}
-use borrow.Author.Tests.{le-leb, lt-leb}
+use borrow.Author.Tests.{lt-leb}
 use Rattle.words.specs.Words.{padded}
 use Rattle.floor.specs.declared.Reason.the-variants.{Limit}
 use Rattle.floor.specs.declared.Table.the-variants.{Paths}
@@ -24,6 +24,7 @@ use Rattle.limits.proofs.Kept.{within-kept, within-over, paths-within-is}
 use Rattle.hegtalim.specs.declared.Loaded.{Loaded}
 use Rattle.slice.specs.PlanSlice.{plan-slice}
 use Rattle.hegtalim.specs.Outcomes.{Load, load-judged, load}
+use Rattle.hegtalim.proofs.Calls.{load-on}
 
 -- ---- the judgement
 
@@ -138,18 +139,12 @@ loads-short ts plan h =
     (ap (λ (b : Bool). elim b as (λ _. Load) [ false ↦ record { answer = Loaded.TooShort; plan = plan } | true ↦ load-judged ts (length plan) (judge ts) ]) (lt-leb 233_472 (length plan) h))
 
 module _ (ts : Tables) (plan : List ℕ) (long : 233_472 ≤ length plan) where
-  loads : (j : Judged Plan) → judge ts ≡ j → load ts plan ≡ load-judged ts (length plan) j
-  unfolding load
-  loads j e =
-      ap (λ (b : Bool). elim b as (λ _. Load) [ false ↦ record { answer = Loaded.TooShort; plan = plan } | true ↦ load-judged ts (length plan) (judge ts) ]) (le-leb 233_472 (length plan) long)
-      ∙ ap (load-judged ts (length plan)) e
-
   -- a refusal, and zeros
   pub loads-refused : (r : Refusal) → Loaded.Refused r ≡ said ts → (left : List ℕ) → left ≡ replicate (length plan) 0 → Loads ts plan (Loaded.Refused r) left
   unfolding load-judged
-  loads-refused r e left z = let (a, b) = both ts plan _ (loads (refused r) (refused-said ts r e)) in (a, z ∙ b)
+  loads-refused r e left z = let (a, b) = both ts plan _ (load-on ts plan (refused r) long (refused-said ts r e)) in (a, z ∙ b)
 
   -- a plan held
   pub loads-held : Loaded.Held ≡ said ts → (left : List ℕ) → left ≡ plan-slice (length plan) ts [] → Loads ts plan Loaded.Held left
   unfolding load-judged
-  loads-held e left z = let (p, q) = held-said ts e in let (a, b) = both ts plan _ (loads (accepted p) q) in (a, z ∙ b)
+  loads-held e left z = let (p, q) = held-said ts e in let (a, b) = both ts plan _ (load-on ts plan (accepted p) long q) in (a, z ∙ b)

@@ -39,7 +39,7 @@ module _ (s : List ℕ) (at w : ℕ) (fits : at + w ≤ length s) where
   steps-none t l = let none : w - t ≡ 0 = omega arith in ap (λ (n : ℕ). take n (drop (at + t) s)) none
 
   -- the path whole
-  path-cons : 1 ≤ w → take w (drop at s) ≡ getD s at 0 ∷ steps-from s at w 1
+  pub path-cons : 1 ≤ w → take w (drop at s) ≡ getD s at 0 ∷ steps-from s at w 1
   path-cons l =
       let one : at + 0 ≡ at = omega arith in
       let all : w - 0 ≡ w = omega arith in

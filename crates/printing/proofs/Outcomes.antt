@@ -24,7 +24,7 @@ use Rattle.slice.specs.PlanSlice.{plan-slice, Held, held}
 use Rattle.slice.proofs.Slice.{held-slice}
 use Rattle.hegtalim.specs.declared.Loaded.{Loaded}
 use Rattle.hegtalim.specs.Outcomes.{Load, load-judged, load}
-use Rattle.hegtalim.proofs.Calls.{load-accepted, load-held}
+use Rattle.hegtalim.proofs.Calls.{load-on, load-accepted, load-held}
 use Rattle.printing.specs.declared.Printed.{Printed}
 use Rattle.printing.specs.Text.{shown, place-shown, refusal-text}
 use Rattle.printing.specs.Lines.{Put}
@@ -108,8 +108,7 @@ refusal-of (Loaded.Refused r) x = r
 module _ (ts : Tables) (before : List ℕ) (long : 233_472 ≤ length before) where
   -- the slice is long enough, so the tables are judged
   loads : load ts before ≡ load-judged ts (length before) (judge ts)
-  unfolding load
-  loads = ap (λ (b : Bool). elim b as (λ _. Load) [ false ↦ record { answer = Loaded.TooShort; plan = before } | true ↦ load-judged ts (length before) (judge ts) ]) (le-leb 233_472 (length before) long)
+  loads = load-on ts before (judge ts) long refl
 
   -- never that it is too short
   pub never-short : (x : Loaded) → x ≡ Loaded.TooShort → x ≡ load ts before .answer → ⊥

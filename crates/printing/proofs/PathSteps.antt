@@ -3,11 +3,11 @@ use Prim.Native.Nat.{ℕ, _+_, _*_, _-_, _≤_, _<_}
 use native.Mathlib.Omega.{arith}
 use mathlib.Core.Path.{_≡_, ap, sym, _∙_, subst}
 use mathlib.Core.Bool.{Bool, cond}
-use mathlib.Core.List.{List, [], _∷_, _++_}
+use mathlib.Core.List.{List, [], _++_}
 use lib.ListN.{length, take, drop, getD}
 use borrow.Author.Tests.{eq-eqb, ne-eqb}
 use Rattle.limits.specs.Counts.{moves-after, moves}
-use Rattle.limits.proofs.CountSteps.{steps-from, steps-cons, steps-none, moves-first, moves-wait, moves-move, moves-none}
+use Rattle.limits.proofs.CountSteps.{steps-from, steps-cons, path-cons, steps-none, moves-first, moves-wait, moves-move, moves-none}
 use Rattle.printing.specs.Lines.{Put, point-line, move-lines, lines-after, path-lines}
 use Rattle.printing.proofs.Puts.{put-then, put-as, put-to, room-first, room-behind, Putting, put-none, put-same, put-on, put-more, put-room, put-all}
 
@@ -23,11 +23,7 @@ module _ (time : ℕ → ℕ) (j : ℕ) (s : List ℕ) (at w : ℕ) (fits : at +
   lines-first : (e : ℕ) → 1 ≤ w
       → path-lines time e j (take w (drop at s)) ≡ point-line time e j (getD s at 0) ++ lines-after time (e + 1) j (getD s at 0) (steps-from s at w 1)
   unfolding path-lines
-  lines-first e l =
-      let here : at + 0 ≡ at = omega arith in
-      let all : w - 0 ≡ w = omega arith in
-      let whole : take w (drop at s) ≡ steps-from s at w 0 = ap (λ (n : ℕ). take n (drop at s)) (sym all) ∙ ap (λ (n : ℕ). take (w - 0) (drop n s)) (sym here) in
-      ap (path-lines time e j) (whole ∙ steps-cons s at w fits 0 l ∙ ap (λ (n : ℕ). getD s n 0 ∷ steps-from s at w 1) here)
+  lines-first e l = ap (path-lines time e j) (path-cons s at w fits l)
 
   -- a wait has none
   lines-wait : (e c t : ℕ) → t < w → c ≡ getD s (at + t) 0

@@ -1,22 +1,16 @@
 -- What is printed of what a timetable answers. Assumes nothing.
-use Prim.Native.Nat.{ℕ, _^_, _≤_, _<_}
+use Prim.Native.Nat.{ℕ, _≤_}
 use native.Mathlib.Omega.{arith}
 use mathlib.Core.Path.{_≡_, refl, ap, sym, _∙_, subst}
 use mathlib.Core.Bool.{true, true≢false}
 use mathlib.Core.List.{List}
 use mathlib.Core.Option.{none, some, Option·none-ne-some, Option·some-injective}
-use lib.Dec.{lit≤}
-use lib.ListN.{length, drop, getD, replicate, length-replicate}
-use Rattle.words.specs.Words.{words, word-at, written}
-use Rattle.words.proofs.Reading.{word-at-words}
+use lib.ListN.{length, getD, replicate, length-replicate}
+use Rattle.words.specs.Words.{word-at}
 use Rattle.csv.specs.Text.{bytes}
-use Rattle.floor.specs.Plan.{Plan}
-use Rattle.network.specs.Events.{event-count}
-use Rattle.schedule.specs.Book.{Book}
-use Rattle.schedule.specs.Timetable.{Timetable, timetable}
+use Rattle.schedule.specs.Timetable.{timetable}
 use Rattle.schedule.specs.Lent.{Lent, times-written}
-use Rattle.schedule.proofs.Logged.{Logged}
-use Rattle.schedule.proofs.Times.{timetable-length, timetable-range}
+use Rattle.schedule.proofs.Lent.{times-back}
 use Rattle.slice.specs.PlanSlice.{Held, held}
 use Rattle.hegtalim.specs.declared.Timed.{Timed}
 use Rattle.hegtalim.specs.Outcomes.{meets-needs, Timetabled, too-short, no-plan, timed, no-times}
@@ -37,15 +31,6 @@ case-of (Timed.Times k) = 0
 case-of Timed.TooShort = 1
 case-of Timed.NoPlan = 2
 case-of (Timed.NoTimes n) = 3
-
--- the times written are read back
-times-back : (p : Plan) (b : Book) → Logged p b → (t : Timetable) → timetable p b ≡ some t → (l : Lent) (v : ℕ) → v < event-count p
-    → word-at 8 (times-written t l .times) v ≡ getD (t .times) v 0
-unfolding times-written written
-times-back p b k t e l v h =
-    let most : 4_096_000_000_000_000 < 256 ^ 8 = lit≤ tt in
-    let few : getD (t .times) v 0 ≤ 4_096_000_000_000_000 = timetable-range p b k t e v h in
-    word-at-words 8 (t .times) (drop (length (words 8 (t .times))) (l .times)) v (subst (λ (x : ℕ). v < x) (sym (timetable-length p b k t e)) h) (omega (arith, few, most))
 
 module _ (s : List ℕ) (long : 233_472 ≤ length s) where
   -- the slices that are lent
