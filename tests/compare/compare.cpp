@@ -1,0 +1,192 @@
+/* Compares libhegtalim.a with document 01 as this program reads it and LEMON solves it, on plans at the limits and on plans at random.
+
+     compare [--seed S] [--first I] [--plans N] [--minutes M] [--keep FOLDER]   N plans from the I-th, or plans for M minutes
+     compare --again FOLDER                                                    a case that was kept
+     compare --folders FOLDER N [--seed S]                                     N folders for the program timetable, each with what it must print
+
+   Each plan is tried whole, with reports and changes of its slice, and once more with damaged tables. The first case that differs is made smaller and kept.
+   Everything runs on a thread with a stack of 512 KiB. The last line is 'N passed, M failed'. */
+#include <chrono>
+#include <csignal>
+#include <cstdio>
+#include <cstring>
+#include <pthread.h>
+#include <unistd.h>
+
+#include "folder.hpp"
+#include "limits.hpp"
+#include "shrink.hpp"
+
+struct Options {
+    uint64_t seed = 20160612, first = 0, plans = 3000, minutes = 0;
+    std::string keep_in = "target/tests/kept", again, folders;
+};
+
+static Options options;
+static Met met(15);
+static unsigned passed, failed;
+static char running[80]; /* what to say if a call is stopped */
+
+/* ---- one case */
+
+static void keep_smallest(const Case &found) {
+    auto differs = [](const Case &tried) {
+        Met none(15);
+        return !difference(tried, none).empty();
+    };
+    Case smallest = Shrinking(found, differs, 4000).run();
+    Met none(15);
+    std::filesystem::remove_all(options.keep_in);
+    keep(options.keep_in, smallest, difference(smallest, none));
+    printf("kept, made smaller: %s\n", options.keep_in.c_str());
+}
+
+static void try_case(const std::string &name, const Case &tried) {
+    snprintf(running, sizeof running, "%s", name.c_str());
+    std::string found = difference(tried, met);
+    if (found.empty()) {
+        passed++;
+        return;
+    }
+    printf("%s: %s\n", name.c_str(), found.c_str());
+    if (failed++ == 0)
+        keep_smallest(tried);
+}
+
+/* ---- plans */
+
+/* the test's reading must come to what is known, too */
+static void try_known() {
+    for (const Known &known : known_cases()) {
+        Refusal read = read_tables(known.tried.tables).refusal;
+        if (!(read == known.refusal)) {
+            printf("%s: read as refusal %u, table %u, record %llu\n", known.name.c_str(), read.number, read.table,
+                   static_cast<unsigned long long>(read.record));
+            failed++;
+        }
+        try_case(known.name, known.tried);
+    }
+}
+
+/* each plan has a seed of its own, so that it can be tried alone */
+static uint64_t seed_of(uint64_t plan) { return options.seed * UINT64_C(0x9e3779b97f4a7c15) + plan; }
+
+static void try_plan(uint64_t plan) {
+    Random random(seed_of(plan));
+    Case whole = random_case(random);
+    add_changes(random, whole, 3);
+    try_case("plan " + std::to_string(plan), whole);
+    Case damaged{whole.tables, {{1, 0}}, {}, 0};
+    damage_tables(random, damaged.tables);
+    try_case("plan " + std::to_string(plan) + ", damaged", damaged);
+}
+
+static void try_plans() {
+    using Clock = std::chrono::steady_clock;
+    auto end = Clock::now() + std::chrono::minutes(options.minutes);
+    uint64_t plan = options.first;
+    while (failed == 0 && (options.minutes > 0 ? Clock::now() < end : plan < options.first + options.plans))
+        try_plan(plan++);
+    printf("%llu plans from %llu on\n", static_cast<unsigned long long>(plan - options.first), static_cast<unsigned long long>(options.first));
+}
+
+/* a run that never meets some refusal shows nothing of it */
+static void check_met() {
+    for (size_t refusal = 0; refusal < met.size(); refusal++) {
+        printf("refusal %zu: %u times\n", refusal, met[refusal]);
+        if (met[refusal] == 0 && options.plans >= 1000) {
+            printf("refusal %zu was never met\n", refusal);
+            failed++;
+        }
+    }
+}
+
+static void write_folders() {
+    for (uint64_t i = 0; i < options.plans; i++) {
+        Random random(seed_of(i));
+        Tables tables = write_tables(random_plan(random));
+        if (i % 4 == 3)
+            damage_tables(random, tables);
+        write_program_case(std::filesystem::path(options.folders) / std::to_string(i), tables);
+    }
+}
+
+static void run() {
+    setvbuf(stdout, nullptr, _IOLBF, 0);
+    if (!options.folders.empty()) {
+        write_folders();
+        return;
+    }
+    if (!options.again.empty()) {
+        try_case(options.again, kept_in(options.again));
+    } else {
+        printf("seed %llu\n", static_cast<unsigned long long>(options.seed));
+        try_known();
+        try_plans();
+        check_met();
+    }
+    printf("%u passed, %u failed\n", passed, failed);
+}
+
+/* ---- the thread */
+
+/* a call that reads or writes where there is nothing, or needs more stack than there is */
+static void stopped(int) {
+    static const char said[] = ": stopped at a place that is not lent, or out of stack\n0 passed, 1 failed\n";
+    if (write(1, running, strlen(running)) < 0 || write(1, said, sizeof said - 1) < 0)
+        _exit(2);
+    _exit(1);
+}
+
+static void *run_in_thread(void *) {
+    static char other_stack[1 << 16];
+    stack_t stack = {};
+    stack.ss_sp = other_stack;
+    stack.ss_size = sizeof other_stack;
+    struct sigaction action = {};
+    action.sa_handler = stopped;
+    action.sa_flags = SA_ONSTACK;
+    sigaltstack(&stack, nullptr);
+    sigaction(SIGSEGV, &action, nullptr);
+    sigaction(SIGBUS, &action, nullptr);
+    run();
+    return nullptr;
+}
+
+static bool run_on_stack(size_t bytes) {
+    pthread_attr_t attributes;
+    pthread_t thread;
+    return pthread_attr_init(&attributes) == 0 && pthread_attr_setstacksize(&attributes, bytes) == 0 &&
+           pthread_create(&thread, &attributes, run_in_thread, nullptr) == 0 && pthread_join(thread, nullptr) == 0;
+}
+
+static bool read_options(int count, char **words) {
+    for (int i = 1; i < count; i++) {
+        std::string word = words[i];
+        int left = count - 1 - i;
+        if (word == "--folders" && left >= 2) {
+            options.folders = words[++i];
+            options.plans = strtoull(words[++i], nullptr, 10);
+        } else if ((word == "--keep" || word == "--again") && left >= 1) {
+            (word == "--keep" ? options.keep_in : options.again) = words[++i];
+        } else if ((word == "--seed" || word == "--first" || word == "--plans" || word == "--minutes") && left >= 1) {
+            uint64_t number = strtoull(words[++i], nullptr, 10);
+            (word == "--seed" ? options.seed : word == "--first" ? options.first : word == "--plans" ? options.plans : options.minutes) = number;
+        } else {
+            return false;
+        }
+    }
+    return true;
+}
+
+int main(int count, char **words) {
+    if (!read_options(count, words)) {
+        fprintf(stderr, "compare [--seed S] [--first I] [--plans N] [--minutes M] [--keep FOLDER] | --again FOLDER | --folders FOLDER N [--seed S]\n");
+        return 2;
+    }
+    if (!run_on_stack(512 << 10)) {
+        fprintf(stderr, "no thread with a stack of 512 KiB\n");
+        return 2;
+    }
+    return failed != 0;
+}
