@@ -23,7 +23,7 @@ struct Options {
 };
 
 static Options options;
-static Met met(15);
+static Met met;
 static unsigned passed, failed;
 static char running[80]; /* what to say if a call is stopped */
 
@@ -31,11 +31,11 @@ static char running[80]; /* what to say if a call is stopped */
 
 static void keep_smallest(const Case &found) {
     auto differs = [](const Case &tried) {
-        Met none(15);
+        Met none;
         return !difference(tried, none).empty();
     };
     Case smallest = Shrinking(found, differs, 4000).run();
-    Met none(15);
+    Met none;
     std::filesystem::remove_all(options.keep_in);
     keep(options.keep_in, smallest, difference(smallest, none));
     printf("kept, made smaller: %s\n", options.keep_in.c_str());
@@ -90,13 +90,19 @@ static void try_plans() {
     printf("%llu plans from %llu on\n", static_cast<unsigned long long>(plan - options.first), static_cast<unsigned long long>(options.first));
 }
 
-/* a run that never meets some refusal shows nothing of it */
+/* a run that never comes to some refusal shows nothing of it */
 static void check_met() {
-    for (size_t refusal = 0; refusal < met.size(); refusal++) {
-        printf("refusal %zu: %u times\n", refusal, met[refusal]);
-        if (met[refusal] == 0 && options.plans >= 1000) {
-            printf("refusal %zu was never met\n", refusal);
-            failed++;
+    static const std::vector<std::pair<std::string, std::vector<unsigned>>> due = {
+        {"load", {0, 1, 2, 3, 4, 5, 6, 7, 8, 9, 14}}, {"report", {0, 10, 11, 12, 14}}, {"timetable", {0, 10, 13, 14}},
+        {"timetable with reports", {0, 13}},          {"changed slice", {0, 10}},
+    };
+    for (const auto &[call, refusals] : due) {
+        printf("%s:", call.c_str());
+        for (unsigned refusal : refusals) {
+            unsigned times = met.count(call + " " + std::to_string(refusal));
+            printf(" %u %s %u times%s", refusal, refusal == 0 ? "(accepted)" : "", times, refusal == refusals.back() ? "\n" : ",");
+            if (times == 0 && options.plans >= 1000 && failed++ == 0)
+                printf("\n%s: %u was never met\n", call.c_str(), refusal);
         }
     }
 }
@@ -140,16 +146,17 @@ static void stopped(int) {
 
 static void *run_in_thread(void *) {
     static char other_stack[1 << 16];
-    stack_t stack = {};
+    stack_t stack = {}, was = {};
     stack.ss_sp = other_stack;
     stack.ss_size = sizeof other_stack;
     struct sigaction action = {};
     action.sa_handler = stopped;
     action.sa_flags = SA_ONSTACK;
-    sigaltstack(&stack, nullptr);
+    sigaltstack(&stack, &was);
     sigaction(SIGSEGV, &action, nullptr);
     sigaction(SIGBUS, &action, nullptr);
     run();
+    sigaltstack(&was, nullptr);
     return nullptr;
 }
 

@@ -48,8 +48,17 @@ inline void must_answer(const char *call, uint64_t answer, unsigned refusal, uns
 /* from so many events on, times are not found after every report */
 constexpr size_t many_events = 250;
 
-/* how often each refusal came, by its number */
-using Met = std::vector<unsigned>;
+/* how often each call came to each refusal, as 'load 4' */
+class Met {
+    std::map<std::string, unsigned> times;
+
+  public:
+    void add(const std::string &call, unsigned refusal) { times[call + " " + std::to_string(refusal)]++; }
+    unsigned count(const std::string &what) const {
+        auto found = times.find(what);
+        return found == times.end() ? 0 : found->second;
+    }
+};
 
 class Trial {
     Case tried;
@@ -75,14 +84,14 @@ class Trial {
         Lent slice(content);
         must_answer("load, a plan slice one byte short", load_into(slice), 14, 0, 0);
         must(slice.holds(content), "load: 14, and the plan slice has changed");
-        met[14]++;
+        met.add("load", 14);
     }
 
     void report_short() {
         Lent slice(Bytes(before.begin(), before.begin() + plan_need - 1));
         must_answer("report, a plan slice one byte short", hegtalim_report(slice.data(), slice.size(), 1, most_time), 14, 0, 0);
         must(slice.holds(Bytes(before.begin(), before.begin() + plan_need - 1)), "report: 14, and the plan slice has changed");
-        met[14]++;
+        met.add("report", 14);
     }
 
     /* ---- timetables */
@@ -107,7 +116,7 @@ class Trial {
             Written written(shorter == 0, shorter == 1, shorter == 2);
             must_answer("timetable, a slice one byte short", written.ask(plan.data(), shorter == 3 ? plan_need - 1 : plan.size()), 14, 0, 0);
             must(written.kept() && plan.holds(before), "timetable: 14, and a slice has changed");
-            met[14]++;
+            met.add("timetable", 14);
         }
     }
 
@@ -142,7 +151,9 @@ class Trial {
         Written written;
         uint64_t answer = written.ask(plan.data(), plan.size());
         must(plan.holds(before), "timetable: the plan slice has changed");
-        met[HEGTALIM_REFUSAL(answer) % met.size()]++;
+        met.add("timetable", HEGTALIM_REFUSAL(answer));
+        if (held && !held->log.empty())
+            met.add("timetable with reports", HEGTALIM_REFUSAL(answer));
         if (!held) {
             must_answer("timetable", answer, 10, 0, 0);
             must(written.kept(), "timetable: 10, and a slice has changed");
@@ -165,7 +176,7 @@ class Trial {
         if (due == 0)
             before = held->slice(plan.size());
         must(plan.holds(before), "report: the plan slice is not what it must be after " + in_words(due));
-        met[due]++;
+        met.add("report", due);
     }
 
     /* with many events a solution for each report takes long: then after every eighth, and the last */
@@ -185,6 +196,7 @@ class Trial {
             before.at(change.place) = change.byte;
         plan.put(before);
         held = held_in(before);
+        met.add("changed slice", held ? 0 : 10);
         timetable();
         for (uint64_t cart = 1; cart <= 2; cart++)
             report({cart, held ? held->book.clock() : 0});
@@ -199,7 +211,7 @@ class Trial {
         Reading reading = read_tables(tried.tables);
         uint64_t answer = load_into(plan);
         must_answer("load", answer, reading.refusal.number, reading.refusal.table, reading.refusal.record);
-        met[reading.refusal.number]++;
+        met.add("load", reading.refusal.number);
         if (reading.refusal.number == 0)
             held.emplace(tried.tables, reading.network);
         before = held ? held->slice(plan.size()) : Bytes(plan.size());
