@@ -47,8 +47,8 @@ inline Scale random_scale(Random &random) {
 }
 
 /* mostly no more moves than the events' limit allows */
-inline Plan random_plan(Random &random) {
-    size_t carts = random_carts(random), steps = random_steps(random, carts);
+inline Plan random_plan(Random &random, bool small) {
+    size_t carts = small ? random.between(1, 6) : random_carts(random), steps = small ? random.between(1, 12) : random_steps(random, carts);
     size_t most_moves = random.chance(98) ? (most_events - 2 - carts) / 3 : SIZE_MAX / 2;
     Floor floor = random_floor(random, carts);
     Walks walks = walk(random, floor, carts, steps, random.one_of<unsigned>({0, 10, 30, 70}), most_moves);
@@ -114,9 +114,9 @@ inline size_t random_count(Random &random, const Reading &reading) {
     return random.chance(30) ? 0 : events < 80 && random.chance(20) ? events + 2 : random.between(1, 10);
 }
 
-inline Case random_case(Random &random) {
+inline Case random_case(Random &random, bool small) {
     Case made;
-    made.tables = write_tables(random_plan(random));
+    made.tables = write_tables(random_plan(random, small));
     made.more = random.chance(80) ? 0 : random.between(1, 5000);
     Reading reading = read_tables(made.tables);
     if (reading.refusal.number == 0)

@@ -1,11 +1,12 @@
 /* Compares libhegtalim.a with document 01 as this program reads it and LEMON solves it, on plans at the limits and on plans at random.
 
-     compare [--seed S] [--first I] [--plans N] [--minutes M] [--keep FOLDER]   N plans from the I-th, or plans for M minutes
-     compare --again FOLDER                                                    a case that was kept
-     compare --folders FOLDER N [--seed S]                                     N folders for the program timetable, each with what it must print
+     compare [--seed S] [--first I] [--plans N | --minutes M] [--small] [--keep FOLDER]   N plans from the I-th, or plans for M minutes
+     compare --again FOLDER                                                               a case that was kept
+     compare --folders FOLDER N [--seed S]                                                N folders for the program timetable, with what it must print
 
    Each plan is tried whole, with reports and changes of its slice, and once more with damaged tables. The first case that differs is made smaller and kept.
-   Everything runs on a thread with a stack of 512 KiB. The last line is 'N passed, M failed'. */
+   --small tries small plans only, on a slow machine such as valgrind's. Everything runs on a thread with a stack of 512 KiB. The last line is 'N passed, M
+   failed'. */
 #include <chrono>
 #include <csignal>
 #include <cstdio>
@@ -19,6 +20,7 @@
 
 struct Options {
     uint64_t seed = 20160612, first = 0, plans = 3000, minutes = 0;
+    bool small = false;
     std::string keep_in = "target/tests/kept", again, folders;
 };
 
@@ -73,7 +75,7 @@ static uint64_t seed_of(uint64_t plan) { return options.seed * UINT64_C(0x9e3779
 
 static void try_plan(uint64_t plan) {
     Random random(seed_of(plan));
-    Case whole = random_case(random);
+    Case whole = random_case(random, options.small);
     add_changes(random, whole, 3);
     try_case("plan " + std::to_string(plan), whole);
     Case damaged{whole.tables, {{1, 0}}, {}, 0};
@@ -110,7 +112,7 @@ static void check_met() {
 static void write_folders() {
     for (uint64_t i = 0; i < options.plans; i++) {
         Random random(seed_of(i));
-        Tables tables = write_tables(random_plan(random));
+        Tables tables = write_tables(random_plan(random, false));
         if (i % 4 == 3)
             damage_tables(random, tables);
         write_program_case(std::filesystem::path(options.folders) / std::to_string(i), tables);
@@ -127,7 +129,8 @@ static void run() {
         try_case(options.again, kept_in(options.again));
     } else {
         printf("seed %llu\n", static_cast<unsigned long long>(options.seed));
-        try_known();
+        if (!options.small)
+            try_known();
         try_plans();
         check_met();
     }
@@ -174,6 +177,8 @@ static bool read_options(int count, char **words) {
         if (word == "--folders" && left >= 2) {
             options.folders = words[++i];
             options.plans = strtoull(words[++i], nullptr, 10);
+        } else if (word == "--small") {
+            options.small = true;
         } else if ((word == "--keep" || word == "--again") && left >= 1) {
             (word == "--keep" ? options.keep_in : options.again) = words[++i];
         } else if ((word == "--seed" || word == "--first" || word == "--plans" || word == "--minutes") && left >= 1) {
@@ -188,7 +193,8 @@ static bool read_options(int count, char **words) {
 
 int main(int count, char **words) {
     if (!read_options(count, words)) {
-        fprintf(stderr, "compare [--seed S] [--first I] [--plans N] [--minutes M] [--keep FOLDER] | --again FOLDER | --folders FOLDER N [--seed S]\n");
+        fprintf(stderr,
+                "compare [--seed S] [--first I] [--plans N | --minutes M] [--small] [--keep FOLDER] | --again FOLDER | --folders FOLDER N [--seed S]\n");
         return 2;
     }
     if (!run_on_stack(512 << 10)) {
