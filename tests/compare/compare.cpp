@@ -92,20 +92,24 @@ static void try_plans() {
     printf("%llu plans from %llu on\n", static_cast<unsigned long long>(plan - options.first), static_cast<unsigned long long>(options.first));
 }
 
-/* a run that never comes to some refusal shows nothing of it */
+static bool is_whole() { return options.plans >= 1000 || options.minutes > 0; }
+
+/* a whole run that never comes to some refusal shows nothing of it */
 static void check_met() {
     static const std::vector<std::pair<std::string, std::vector<unsigned>>> due = {
         {"load", {0, 1, 2, 3, 4, 5, 6, 7, 8, 9, 14}}, {"report", {0, 10, 11, 12, 14}}, {"timetable", {0, 10, 13, 14}},
         {"timetable with reports", {0, 13}},          {"changed slice", {0, 10}},
     };
     for (const auto &[call, refusals] : due) {
-        printf("%s:", call.c_str());
-        for (unsigned refusal : refusals) {
-            unsigned times = met.count(call + " " + std::to_string(refusal));
-            printf(" %u %s %u times%s", refusal, refusal == 0 ? "(accepted)" : "", times, refusal == refusals.back() ? "\n" : ",");
-            if (times == 0 && options.plans >= 1000 && failed++ == 0)
-                printf("\n%s: %u was never met\n", call.c_str(), refusal);
-        }
+        printf("%s, how often each refusal came (0: none):", call.c_str());
+        for (unsigned refusal : refusals)
+            printf(" %u: %u", refusal, met.count(call, refusal));
+        printf("\n");
+        for (unsigned refusal : refusals)
+            if (met.count(call, refusal) == 0 && is_whole()) {
+                printf("%s: %u never came\n", call.c_str(), refusal);
+                failed++;
+            }
     }
 }
 

@@ -48,14 +48,14 @@ inline void must_answer(const char *call, uint64_t answer, unsigned refusal, uns
 /* from so many events on, times are not found after every report */
 constexpr size_t many_events = 250;
 
-/* how often each call came to each refusal, as 'load 4' */
+/* how often each call came to each refusal */
 class Met {
-    std::map<std::string, unsigned> times;
+    std::map<std::pair<std::string, unsigned>, unsigned> times;
 
   public:
-    void add(const std::string &call, unsigned refusal) { times[call + " " + std::to_string(refusal)]++; }
-    unsigned count(const std::string &what) const {
-        auto found = times.find(what);
+    void add(const std::string &call, unsigned refusal) { times[{call, refusal}]++; }
+    unsigned count(const std::string &call, unsigned refusal) const {
+        auto found = times.find({call, refusal});
         return found == times.end() ? 0 : found->second;
     }
 };
