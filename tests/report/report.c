@@ -4,7 +4,6 @@
    slices are compared with the times of the book (tests/common/timed.h). One line for each case that fails; the last line is 'N passed, M failed'. */
 #define _DEFAULT_SOURCE
 #include "../common/damage.h"
-#include "../common/random.h"
 #include "../common/timed.h"
 
 enum { LEAST, LONGER, PLANS };
@@ -42,12 +41,10 @@ static int report_once(const char *name, unsigned i, size_t length, struct repor
     return is_kept(name, i);
 }
 
-#define ANY 99
-
-/* a report in both slices, answered by the book; the refusal that the case expects, or ANY */
+/* a report in both slices, answered by the book; the refusal that the case expects */
 static int report_both(const char *name, struct report r, unsigned expected) {
     unsigned refusal = enter(&network, &book, r);
-    if (expected != ANY && expected != refusal) {
+    if (expected != refusal) {
         printf("%s: the test expects %u and reads %u\n", name, expected, refusal);
         return 0;
     }
@@ -94,10 +91,10 @@ static unsigned solve_book(void) {
     return solution.fits ? 0 : 13;
 }
 
-/* timetables of both slices, which stay as they are; the refusal that the case expects, or ANY */
+/* timetables of both slices, which stay as they are; the refusal that the case expects */
 static int time_both(const char *name, unsigned expected) {
     unsigned refusal = solve_book();
-    if (expected != ANY && expected != refusal) {
+    if (expected != refusal) {
         printf("%s: the test expects a timetable's refusal %u and reads %u\n", name, expected, refusal);
         return 0;
     }
@@ -291,90 +288,6 @@ static void short_slices(void) {
     }
 }
 
-/* ---- random lists of reports and timetables */
-
-/* how often answers came, by refusal */
-static unsigned reported[15], timed[15];
-
-static unsigned points_left(void) {
-    unsigned n = 0;
-    for (unsigned j = 0; j < network.carts; j++)
-        n += points(&network, j) - book.passed[j];
-    return n;
-}
-
-/* a report of any cart about the clock; one of a number that is no cart; one at a time that is refused */
-static struct report random_other(void) {
-    static const unsigned bit[] = {8, 9, 16, 31, 32, 40, 63};
-    uint64_t cart = between(1, network.carts), about = book.clock + below(2000);
-    switch (below(4)) {
-    case 0:
-        return (struct report){cart + BIT(bit[below(7)]), about};
-    case 1:
-        return (struct report){below(2) == 0 ? 0 : network.carts + 1 + below(3), about};
-    case 2:
-        return (struct report){cart, below(2) == 0 ? (uint64_t)MOST_TIME + 1 + below(3) : BIT(bit[5 + below(2)]) + about};
-    default:
-        return (struct report){cart, about < 1000 ? about : about - 1000};
-    }
-}
-
-static int random_call(const char *name, unsigned kind) {
-    unsigned chance = below(16);
-    if (chance == 0) {
-        int ok = time_both(name, ANY);
-        timed[solution.fits ? 0 : 13]++;
-        return ok;
-    }
-    if (chance == 1) {
-        size_t length[SLICES] = {need[0], need[1], need[2]};
-        length[below(SLICES)] -= between(1, 4096);
-        return time_once(name, 0, given[LEAST] + GUARD, plan_length[LEAST], length, 14) && is_kept(name, LEAST);
-    }
-    struct report r = chance < 6 || points_left() == 0 ? random_other() : random_report(&book, kind);
-    size_t so_far = reports;
-    struct book as_it_was = book;
-    reported[enter(&network, &as_it_was, r)]++;
-    int ok = report_both(name, r, ANY);
-    if (reports != so_far)
-        solve_book(); /* the next report goes by these times */
-    return ok;
-}
-
-/* fails where an answer was met too seldom to show anything */
-static void check_met(const char *what, const unsigned *met, unsigned refusal) {
-    if (met[refusal] < 20)
-        printf("random lists: %s of refusal %u met %u times\n", what, refusal, met[refusal]);
-    count(met[refusal] >= 20);
-}
-
-#define RANDOM_LISTS 300
-
-static void random_lists(void) {
-    static char name[100];
-    unsigned lists = 0;
-    while (lists < RANDOM_LISTS) {
-        random_plan();
-        if (!is_loaded(&p))
-            continue;
-        snprintf(name, sizeof name, "random list %u", ++lists);
-        int ok = begin(name);
-        solve_book();
-        for (unsigned n = below(40), kind = below(3); ok && n > 0; n--)
-            ok = random_call(name, kind);
-        ok = ok && time_both(name, ANY);
-        timed[solution.fits ? 0 : 13]++;
-        count(ok);
-    }
-    printf("seed %u: %u random lists: %u reports taken, %u of no cart or point, %u out of time; %u times, %u chains\n", SEED, lists, reported[0],
-           reported[11], reported[12], timed[0], timed[13]);
-    check_met("reports", reported, 0);
-    check_met("reports", reported, 11);
-    check_met("reports", reported, 12);
-    check_met("timetables", timed, 0);
-    check_met("timetables", timed, 13);
-}
-
 int main(void) {
     begin_tests();
     plan_pages = new_pages(sizeof held);
@@ -382,6 +295,5 @@ int main(void) {
     drives();
     damaged_slices(check_held_slice);
     short_slices();
-    random_lists();
     return end_tests();
 }

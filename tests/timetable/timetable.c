@@ -3,11 +3,7 @@
    tests/common/timed.h. One line for each case that fails; the last line is 'N passed, M failed'. */
 #define _DEFAULT_SOURCE
 #include "../common/damage.h"
-#include "../common/random.h"
 #include "../common/timed.h"
-
-/* how often random cases came out so, by refusal, without and with reports */
-static unsigned met[15][2];
 
 /* 14 where slices of the least lengths become too short, one at a time */
 static int time_short(const char *name, size_t less) {
@@ -21,9 +17,7 @@ static int time_short(const char *name, size_t less) {
     return 1;
 }
 
-#define ANY 99
-
-/* the calls of a case; the refusals that it must have with the least plan slice and with the longer one, or ANY */
+/* the calls of a case; the refusals that it must have with the least plan slice and with the longer one */
 static int time_all(const char *name, unsigned refusal, unsigned longer) {
     static const size_t longer_length[SLICES] = {32768 + MORE, 8192 + MORE, 4096 + MORE};
     if (!time_short(name, 1))
@@ -31,7 +25,7 @@ static int time_all(const char *name, unsigned refusal, unsigned longer) {
     for (unsigned turn = 5; turn < 7; turn++) {
         size_t length = turn == 5 ? PLAN_NEED : PLAN_NEED + MORE;
         unsigned wanted = turn == 5 ? refusal : longer, judged = judge(length);
-        if (wanted != ANY && wanted != judged) {
+        if (wanted != judged) {
             printf("%s: the test expects %u and reads %u\n", name, wanted, judged);
             return 0;
         }
@@ -256,118 +250,6 @@ static void short_slices(void) {
         count(time_short("short slices, no plan", less[i]));
 }
 
-/* ---- random plans */
-
-/* reports for the plan in `held`: how many */
-static size_t random_log(void) {
-    static struct report log[LOG_PLACES];
-    struct book b;
-    unsigned points_left = 0, kind = below(3);
-    judge(sizeof held);
-    open_book(&network, &b);
-    for (unsigned j = 0; j < network.carts; j++)
-        points_left += points(&network, j) - 1;
-    size_t length = points_left == 0 ? 0 : between(1, points_left);
-    for (size_t i = 0; i < length; i++) {
-        log[i] = random_report(&b, kind);
-        if (enter(&network, &b, log[i]) != 0 || !add_reports(&network, log, i + 1)) {
-            fprintf(stderr, "a report of a test is not taken\n");
-            exit(2);
-        }
-        solve(&network, &solution);
-    }
-    put_log(held, log, length);
-    return length;
-}
-
-/* a random case: counted by how it comes out */
-static void check_random(const char *what, unsigned number, int reports) {
-    static char name[100];
-    snprintf(name, sizeof name, "%s %u", what, number);
-    int ok = time_all(name, ANY, ANY);
-    unsigned refusal = (unsigned)(answer & 0xff);
-    count(ok);
-    if (refusal < 15)
-        met[refusal][reports]++;
-}
-
-/* fails where an outcome was met too seldom to show anything */
-static void check_met(const char *what, unsigned refusal, int reports) {
-    int ok = met[refusal][reports] >= 20;
-    if (!ok)
-        printf("%s: refusal %u %s reports met %u times\n", what, refusal, reports ? "with" : "without", met[refusal][reports]);
-    count(ok);
-}
-
-#define RANDOM_PLANS 400
-
-static void random_plans(void) {
-    unsigned loaded = 0, refused = 0;
-    memset(met, 0, sizeof met);
-    while (loaded < RANDOM_PLANS && refused < 20 * RANDOM_PLANS) {
-        random_plan();
-        if (!is_loaded(&p)) {
-            refused++;
-            continue;
-        }
-        hold("a random plan");
-        check_random("random plan", ++loaded, 0);
-        if (random_log() > 0)
-            check_random("random plan with reports", loaded, 1);
-    }
-    printf("seed %u: %u random plans, %u others refused: %u times and %u chains without reports, %u and %u with\n", SEED, loaded, refused, met[0][0],
-           met[13][0], met[0][1], met[13][1]);
-    for (int reports = 0; reports < 2; reports++) {
-        check_met("random plans", 0, reports);
-        check_met("random plans", 13, reports);
-    }
-}
-
-/* a place of a plan slice where something stands, or just behind */
-static size_t random_place(void) {
-    unsigned part = below(5);
-    if (part < 3) {
-        const struct text *t = part == 0 ? &p.roads : part == 1 ? &p.carts : &p.paths;
-        return TABLE_PLACES * part + below((unsigned)t->length + 3);
-    }
-    size_t reports = strlen((const char *)held + LOG_CARTS);
-    return part == 3 ? LOG_CARTS + below((unsigned)reports + 2) : LOG_TIMES + below(8 * (unsigned)reports + 2);
-}
-
-/* another byte for a place: most digits become other digits */
-static uint8_t random_byte(uint8_t was) {
-    uint8_t byte = below(2) == 0 ? (uint8_t)(was + 1) : (uint8_t)below(256);
-    if (was >= '0' && was <= '9' && below(8) != 0)
-        byte = (uint8_t)between('0', '9');
-    return byte != was ? byte : was == '9' ? '8' : (uint8_t)(was + 1);
-}
-
-#define RANDOM_CHANGES 600
-
-/* random plans with reports and one byte changed: what is still a plan has the times of that plan */
-static void random_damage(void) {
-    unsigned changes = 0;
-    memset(met, 0, sizeof met);
-    while (changes < RANDOM_CHANGES) {
-        random_plan();
-        if (!is_loaded(&p))
-            continue;
-        hold("a random plan");
-        random_log();
-        for (unsigned i = 0; i < 4; i++) {
-            size_t place = random_place();
-            uint8_t was = held[place];
-            held[place] = random_byte(was);
-            check_random("random plan, a byte changed", ++changes, 0);
-            held[place] = was;
-        }
-    }
-    printf("%u times a byte of a random plan changed: %u times, %u chains, %u without a plan\n", changes, met[0][0], met[13][0], met[10][0]);
-    check_met("a byte changed", 0, 0);
-    check_met("a byte changed", 13, 0);
-    check_met("a byte changed", 10, 0);
-}
-
 int main(void) {
     begin_tests();
     plan_pages = new_pages(sizeof held);
@@ -376,7 +258,5 @@ int main(void) {
     plans_at_limits();
     damaged_slices(check_both);
     short_slices();
-    random_plans();
-    random_damage();
     return end_tests();
 }
