@@ -4,7 +4,8 @@
      compare --again FOLDER                                                               a case that was kept
      compare --folders FOLDER N [--seed S]                                                N folders for the program timetable, with what it must print
 
-   Each plan is tried whole, with reports and changes of its slice, and once more with damaged tables. The first case that differs is made smaller and kept.
+   Each plan is tried whole, with reports and changes of its slice, and once more with damaged tables. The first case that differs is made smaller and kept,
+   unless FOLDER is empty.
    --small tries small plans only, on a slow machine such as valgrind's. Everything runs on a thread with a stack of 512 KiB. The last line is 'N passed, M
    failed'. */
 #include <chrono>
@@ -36,7 +37,7 @@ static void keep_smallest(const Case &found) {
         Met none;
         return !difference(tried, none).empty();
     };
-    Case smallest = Shrinking(found, differs, 4000).run();
+    Case smallest = Shrinking(found, differs, std::chrono::seconds(20)).run();
     Met none;
     std::filesystem::remove_all(options.keep_in);
     keep(options.keep_in, smallest, difference(smallest, none));
@@ -51,7 +52,7 @@ static void try_case(const std::string &name, const Case &tried) {
         return;
     }
     printf("%s: %s\n", name.c_str(), found.c_str());
-    if (failed++ == 0)
+    if (failed++ == 0 && !options.keep_in.empty())
         keep_smallest(tried);
 }
 

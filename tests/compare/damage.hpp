@@ -6,7 +6,7 @@
 /* ---- bytes of a table */
 
 inline char random_byte(Random &random) {
-    static const std::string likely = ",\r\n0123456789 -+.\"\t;xX";
+    static const std::string likely = ",\r\n0123456789/: -+.\"\t;xX"; /* '/' and ':' stand beside the digits */
     return random.chance(80) ? likely[random.below(likely.size())] : static_cast<char>(random.below(256));
 }
 

@@ -1,6 +1,7 @@
 /* A case that differs made smaller, as long as it still differs. */
 #pragma once
 
+#include <chrono>
 #include <functional>
 
 #include "damage.hpp"
@@ -11,13 +12,10 @@ using Shows = std::function<bool(const Case &)>;
 class Shrinking {
     Case smallest;
     Shows shows;
-    size_t tries;
+    std::chrono::steady_clock::time_point end;
 
     bool accept(const Case &smaller) {
-        if (tries == 0)
-            return false;
-        tries--;
-        if (!shows(smaller))
+        if (std::chrono::steady_clock::now() > end || !shows(smaller))
             return false;
         smallest = smaller;
         return true;
@@ -116,7 +114,7 @@ class Shrinking {
     }
 
   public:
-    Shrinking(const Case &shown, Shows shows, size_t tries) : smallest(shown), shows(shows), tries(tries) {}
+    Shrinking(const Case &shown, Shows shows, std::chrono::seconds most) : smallest(shown), shows(shows), end(std::chrono::steady_clock::now() + most) {}
 
     Case run() {
         for (bool any = true; any;) {
