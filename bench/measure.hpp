@@ -8,15 +8,17 @@
 
 inline double microseconds() { return std::chrono::duration<double, std::micro>(std::chrono::steady_clock::now().time_since_epoch()).count(); }
 
-/* one call that is timed; in every repetition as often as fills some time, since the clock and what other calls leave in the caches weigh on a short one */
+/* One call that is timed. In every repetition it is made once untimed, so that it finds no cache as another side left it, and then as often as fills some
+   time, since the clock weighs on a short one. */
 class Side {
-    static constexpr double least_time = 200; /* microseconds */
+    static constexpr double least_time = 1000; /* microseconds */
 
     std::function<void()> call;
     unsigned calls = 1;
     std::vector<double> samples;
 
     double timed() const {
+        call();
         double from = microseconds();
         for (unsigned i = 0; i < calls; i++)
             call();
@@ -27,10 +29,7 @@ class Side {
     explicit Side(std::function<void()> call) : call(std::move(call)) {}
 
     /* finds how often it is called in a repetition */
-    void calibrate() {
-        timed();
-        calls = static_cast<unsigned>(std::clamp(least_time / timed(), 1.0, 1000.0));
-    }
+    void calibrate() { calls = static_cast<unsigned>(std::clamp(least_time / timed(), 1.0, 1000.0)); }
 
     void repeat() { samples.push_back(timed()); }
 

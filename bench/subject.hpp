@@ -5,9 +5,9 @@
 #include "../tests/compare/reading.hpp"
 #include "boost.hpp"
 #include "checks.hpp"
-#include "held.hpp"
 #include "measure.hpp"
 #include "plans.hpp"
+#include "slices.hpp"
 
 /* a line of a table, a point of each line of the plot */
 struct Row {
@@ -20,7 +20,7 @@ struct Row {
 class Subject {
     std::string name;
     size_t size, events, bounds;
-    Held held;
+    Slices slices;
     Graph lemon_graph;
     BoostGraph boost_graph;
 
@@ -37,7 +37,7 @@ class Subject {
     bool same_times(const std::vector<int64_t> &times) const {
         bool same = times.size() == events;
         for (size_t event = 0; same && event < events; event++)
-            same = held.time(event) == times[event];
+            same = slices.time(event) == times[event];
         return same;
     }
 
@@ -46,16 +46,16 @@ class Subject {
         other_times += !same_times(lemon.times);
         other_passes += HEGTALIM_VALUE(answer) != lemon.passes;
         other_boost += !same_times(boost);
-        judged_wrongly += judged != HEGTALIM_NO_POINT || !held.unchanged();
+        judged_wrongly += judged != HEGTALIM_NO_POINT || !slices.unchanged();
     }
 
   public:
     /* of a plan that is accepted */
     Subject(const Measured &plan, const Network &network)
-        : name(plan.name), size(plan.size), events(network.events.size()), bounds(network.bounds.size()), held(plan.tables),
-          lemon_graph(events, Book(network).bounds(network)), boost_graph(events, Book(network).bounds(network)), whole([this] { answer = held.timetable(); }),
-          judging([this] { judged = held.judge(); }), lemon_side([this] { lemon = lemon_graph.solve(); }), boost_side([this] { boost = boost_graph.solve(); }) {
-    }
+        : name(plan.name), size(plan.size), events(network.events.size()), bounds(network.bounds.size()), slices(plan.tables),
+          lemon_graph(events, Book(network).bounds(network)), boost_graph(events, Book(network).bounds(network)),
+          whole([this] { answer = slices.timetable(); }), judging([this] { judged = slices.judge(); }), lemon_side([this] { lemon = lemon_graph.solve(); }),
+          boost_side([this] { boost = boost_graph.solve(); }) {}
     Subject(const Subject &) = delete;
 
     void calibrate() {
@@ -65,14 +65,14 @@ class Subject {
 
     /* all sides in turn; the last answer of each is checked */
     void repeat() {
-        held.spoil_times();
+        slices.spoil_times();
         for (Side *side : {&whole, &judging, &lemon_side, &boost_side})
             side->repeat();
         compare();
     }
 
     void check(Checks &checks) const {
-        checks.that(held.accepted() && refused == 0, name + ": a call of Hegtalim is refused");
+        checks.that(slices.accepted() && refused == 0, name + ": a call of Hegtalim is refused");
         checks.that(judged_wrongly == 0, name + ": the call that only judges is not refused with 11, or changes the plan slice");
         checks.that(other_times == 0, name + ": the times are not LEMON's");
         checks.that(other_passes == 0, name + ": the passes are not as many as LEMON's rounds");

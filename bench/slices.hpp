@@ -1,17 +1,17 @@
-/* Hegtalim's side: a plan that is held in a slice, and the calls on it. */
+/* Hegtalim's side: the slices that are lent to its calls, with a plan held in one of them. */
 #pragma once
 
 #include "../include/hegtalim.h"
 #include "../tests/compare/tables.hpp"
 
-class Held {
+class Slices {
     std::vector<uint8_t> plan, after_load, times_slice, chain_bounds, chain_directions;
     uint64_t loaded;
 
     static const uint8_t *bytes(const std::string &table) { return reinterpret_cast<const uint8_t *>(table.data()); }
 
   public:
-    explicit Held(const Tables &tables)
+    explicit Slices(const Tables &tables)
         : plan(HEGTALIM_PLAN_NEED), times_slice(HEGTALIM_TIMES_NEED), chain_bounds(HEGTALIM_CHAIN_BOUNDS_NEED),
           chain_directions(HEGTALIM_CHAIN_DIRECTIONS_NEED) {
         loaded = hegtalim_load(bytes(tables.roads), tables.roads.size(), bytes(tables.carts), tables.carts.size(), bytes(tables.paths), tables.paths.size(),
