@@ -2,8 +2,8 @@
    and makes the same passes, but judges nothing. Everything is measured in one run, the two sides in turn, the median of so many repetitions; what is
    compared are the ratios. Usage: timetable [REPETITIONS]. Fails where the two sides don't come to the same times and passes. */
 #define _POSIX_C_SOURCE 200809L
-#include "../../include/hegtalim.h"
-#include "../common/slice.h"
+#include "../include/hegtalim.h"
+#include "../tests/common/slice.h"
 #include "clock.h"
 
 static struct plan p;

@@ -2,9 +2,9 @@
    median of so many repetitions; what is compared are the ratios. A report judges the tables in the plan slice again and replays the log.
    Usage: report [REPETITIONS]. Fails where a report is not taken, or leaves other bytes than it must. */
 #define _DEFAULT_SOURCE
-#include "../../include/hegtalim.h"
-#include "../common/lent.h"
-#include "../common/slice.h"
+#include "../include/hegtalim.h"
+#include "../tests/common/lent.h"
+#include "../tests/common/slice.h"
 #include "clock.h"
 
 static struct plan p;

@@ -3,9 +3,9 @@
    slice, judges the tables and stores them; the parser writes to arrays that are not cleared.
    Usage: load [REPETITIONS]. Fails where the two sides don't read the same plan. */
 #define _POSIX_C_SOURCE 200809L
-#include "../../include/hegtalim.h"
-#include "../common/numbers.h"
-#include "../common/plans.h"
+#include "../include/hegtalim.h"
+#include "../tests/common/numbers.h"
+#include "../tests/common/plans.h"
 #include "clock.h"
 
 /* ---- the two sides */
