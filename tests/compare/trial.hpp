@@ -8,6 +8,10 @@
 #include "held.hpp"
 #include "solver.hpp"
 
+static_assert(plan_need == HEGTALIM_PLAN_NEED && 8 * most_events == HEGTALIM_TIMES_NEED && 2 * most_events == HEGTALIM_CHAIN_BOUNDS_NEED &&
+                  most_events == HEGTALIM_CHAIN_DIRECTIONS_NEED && most_time == HEGTALIM_MOST_TIME,
+              "the header's needs are those of document 01's limits");
+
 /* a byte of the plan slice written by another hand */
 struct Change {
     size_t place;
@@ -60,6 +64,7 @@ class Met {
     }
 };
 
+/* a case, call by call: the slice, and what document 01 says it holds */
 class Trial {
     Case tried;
     Met &met;
@@ -67,7 +72,9 @@ class Trial {
     Bytes before; /* of the plan slice */
     std::optional<Held> held;
 
-    /* ---- slices one byte short */
+    /* ---- loads */
+
+    static Bytes bytes_of(const std::string &table) { return Bytes(table.begin(), table.end()); }
 
     uint64_t load_into(Lent &slice) {
         Lent roads(bytes_of(tried.tables.roads)), carts(bytes_of(tried.tables.carts)), paths(bytes_of(tried.tables.paths));
@@ -77,8 +84,6 @@ class Trial {
         return answer;
     }
 
-    static Bytes bytes_of(const std::string &table) { return Bytes(table.begin(), table.end()); }
-
     void load_short() {
         Bytes content = unlike_any(plan_need - 1);
         Lent slice(content);
@@ -87,11 +92,16 @@ class Trial {
         met.add("load", 14);
     }
 
-    void report_short() {
-        Lent slice(Bytes(before.begin(), before.begin() + plan_need - 1));
-        must_answer("report, a plan slice one byte short", hegtalim_report(slice.data(), slice.size(), 1, most_time), 14, 0, 0);
-        must(slice.holds(Bytes(before.begin(), before.begin() + plan_need - 1)), "report: 14, and the plan slice has changed");
-        met.add("report", 14);
+    /* a refused load leaves zeros */
+    void load() {
+        Reading reading = read_tables(tried.tables);
+        uint64_t answer = load_into(plan);
+        must_answer("load", answer, reading.refusal.number, reading.refusal.table, reading.refusal.record);
+        met.add("load", reading.refusal.number);
+        if (reading.refusal.number == 0)
+            held.emplace(tried.tables, reading.network);
+        before = held ? held->slice(plan.size()) : Bytes(plan.size());
+        must(plan.holds(before), "load: the plan slice is not what it must be after " + in_words(answer));
     }
 
     /* ---- timetables */
@@ -169,6 +179,13 @@ class Trial {
 
     /* ---- reports */
 
+    void report_short() {
+        Lent slice(Bytes(before.begin(), before.begin() + plan_need - 1));
+        must_answer("report, a plan slice one byte short", hegtalim_report(slice.data(), slice.size(), 1, most_time), 14, 0, 0);
+        must(slice.holds(Bytes(before.begin(), before.begin() + plan_need - 1)), "report: 14, and the plan slice has changed");
+        met.add("report", 14);
+    }
+
     void report(const Report &report) {
         uint64_t answer = hegtalim_report(plan.data(), plan.size(), report.cart, report.time);
         unsigned due = held ? held->report(report) : 10;
@@ -190,7 +207,8 @@ class Trial {
         }
     }
 
-    /* the plan slice changed by another hand: a 10 where no load and reports leave those bytes */
+    /* ---- changes by another hand: a 10 where no load and reports leave those bytes */
+
     void change_slice(const Changes &changes) {
         for (const Change &change : changes)
             before.at(change.place) = change.byte;
@@ -208,14 +226,7 @@ class Trial {
     /* throws a Difference */
     void run() {
         load_short();
-        Reading reading = read_tables(tried.tables);
-        uint64_t answer = load_into(plan);
-        must_answer("load", answer, reading.refusal.number, reading.refusal.table, reading.refusal.record);
-        met.add("load", reading.refusal.number);
-        if (reading.refusal.number == 0)
-            held.emplace(tried.tables, reading.network);
-        before = held ? held->slice(plan.size()) : Bytes(plan.size());
-        must(plan.holds(before), "load: the plan slice is not what it must be after " + in_words(answer));
+        load();
         timetable_short();
         report_short();
         timetable();
