@@ -5,9 +5,8 @@
      compare --folders FOLDER N [--seed S]                                                N folders for the program timetable, with what it must print
 
    Each plan is tried whole, with reports and changes of its slice, and once more with damaged tables. The first case that differs is made smaller and kept,
-   unless FOLDER is empty.
-   --small tries small plans only, on a slow machine such as valgrind's. Everything runs on a thread with a stack of 512 KiB. The last line is 'N passed, M
-   failed'. */
+   unless FOLDER is empty. --small tries small plans only, on a slow machine such as valgrind's. Everything runs on a thread with a stack of 512 KiB.
+   The last line is 'N passed, M failed'. */
 #include <chrono>
 #include <csignal>
 #include <cstdio>
