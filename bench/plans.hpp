@@ -2,6 +2,7 @@
 #pragma once
 
 #include "../tests/compare/plans.hpp"
+#include "../tests/compare/starred.hpp"
 #include "words.hpp"
 
 struct Measured {
@@ -22,11 +23,7 @@ inline Tables tables_with_slowest(Plan plan) {
 
 inline size_t events_of(size_t carts, size_t moves) { return 2 + carts + 3 * moves; }
 
-/* document 01, "Plans with known times" */
-inline Measured pair_plan() {
-    const std::string roads = "\r\n0,1,1000000,250000\r\n1,2,1000000,250000\r\n2,3,1000000,250000\r\n3,4,1000000,250000\r\n2,5,1000000,250000\r\n";
-    return {"the pair", 2, 28, {roads_line + roads, carts_line + "\r\n250000,\r\n62500,\r\n", "0,1,2,3,4\r\n1,2,5,2,3\r\n"}};
-}
+inline Measured pair_plan() { return {"the pair", 2, 28, pair_of("250000,").tables}; }
 
 /* to and fro on a line that is the same for any number of moves */
 inline Measured one_cart(size_t moves) {

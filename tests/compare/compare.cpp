@@ -1,4 +1,5 @@
-/* Compares libhegtalim.a with document 01 as this program reads it and LEMON solves it, on plans at the limits and on plans at random.
+/* Compares libhegtalim.a with document 01 as this program reads it and LEMON solves it, on document 01's plans, on plans at the limits and on
+   plans at random.
 
      compare [--seed S] [--first I] [--plans N | --minutes M] [--small] [--keep FOLDER]   N plans from the I-th, or plans for M minutes
      compare --again FOLDER                                                               a case that was kept
@@ -17,6 +18,7 @@
 #include "folder.hpp"
 #include "limits.hpp"
 #include "shrink.hpp"
+#include "starred.hpp"
 
 struct Options {
     uint64_t seed = 20160612, first = 0, plans = 3000, minutes = 0;
@@ -58,12 +60,11 @@ static void try_case(const std::string &name, const Case &tried) {
 /* ---- plans */
 
 /* the test's reading must come to what is known, too */
-static void try_known() {
-    for (const Known &known : known_cases()) {
-        Refusal read = read_tables(known.tried.tables).refusal;
-        if (!(read == known.refusal)) {
-            printf("%s: read as refusal %u, table %u, record %llu\n", known.name.c_str(), read.number, read.table,
-                   static_cast<unsigned long long>(read.record));
+static void try_known(const std::vector<Known> &all) {
+    for (const Known &known : all) {
+        std::string wrong = misread(known);
+        if (!wrong.empty()) {
+            printf("%s: read wrongly: %s\n", known.name.c_str(), wrong.c_str());
             failed++;
         }
         try_case(known.name, known.tried);
@@ -133,8 +134,9 @@ static void run() {
         try_case(options.again, kept_in(options.again));
     } else {
         printf("seed %llu\n", static_cast<unsigned long long>(options.seed));
+        try_known(starred());
         if (!options.small)
-            try_known();
+            try_known(at_limits());
         try_plans();
         check_met();
     }

@@ -1,14 +1,8 @@
 /* Plans at every limit of document 01 and one past it, each with the refusal that it must have. */
 #pragma once
 
+#include "known.hpp"
 #include "plans.hpp"
-#include "trial.hpp"
-
-struct Known {
-    std::string name;
-    Case tried;
-    Refusal refusal;
-};
 
 /* ---- plans made to measure */
 
@@ -95,30 +89,33 @@ inline Tables one_path(const std::string &record) { return {roads_line + "\r\n",
 
 /* ---- the list */
 
+/* Each cart goes 4 seconds a move, and the report is of cart 1's first point when it is due: the clock then reaches all first points by one bound. */
 inline void add_counts(std::vector<Known> &known) {
-    auto add = [&](const std::string &name, const Plan &plan, const Refusal &refusal) {
-        known.push_back({name, {write_tables(plan), {{1, 1000}}, {}, 0}, refusal});
+    auto add = [&](const std::string &name, const Plan &plan, const Refusal &refusal, const std::optional<Outcome> &outcome = {}) {
+        known.push_back({name, {write_tables(plan), {{1, 1000}}, {}, 0}, refusal, {}, outcome});
     };
     add("1,024 roads", with_roads(1024), {});
     add("1,025 roads", with_roads(1025), {4, roads_table, 1025});
     add("64 carts", standing(64, 1), {});
     add("65 carts", standing(65, 1), {4, carts_table, 65});
-    add("T 1,023", apart({1023}, 1024), {});
+    add("T 1,023", apart({1023}, 1024), {}, Outcome{true, 3072, 3071, 3070, {{3071, 4092000}}});
     add("T 1,024", apart({1023}, 1025), {4, paths_table, 1});
     add("8,192 path cells", standing(64, 128), {});
     add("8,256 path cells", standing(64, 129), {4, paths_table, 64});
-    add("4,096 events", apart({682, 682}, 683), {});
+    add("4,096 events", apart({682, 682}, 683), {}, Outcome{true, 4096, 4096, 2047, {{4095, 2728000}}});
     add("4,097 events", apart({454, 454, 456}, 457), {4, paths_table, 0});
     std::vector<size_t> moves(64, 21);
     moves[0] = 20;
-    add("4,095 events of 64 carts", apart(moves, 128), {});
-    add("8,192 bounds", with_bounds(8192), {});
+    add("4,095 events of 64 carts", apart(moves, 128), {}, Outcome{true, 4095, 4157, 64, {{4094, 84000}}});
+    add("8,192 bounds", with_bounds(8192), {}, Outcome{true, 0, 8192, 0, {}});
     add("8,193 bounds", with_bounds(8193), {4, paths_table, 0});
-    add("a chain of over 3,000 items", with_long_chain(1020), {});
+    add("a chain of over 3,000 items", with_long_chain(1020), {}, Outcome{false});
 }
 
 inline void add_sizes(std::vector<Known> &known) {
-    auto add = [&](const std::string &name, const Tables &tables, const Refusal &refusal) { known.push_back({name, {tables, {{1, 0}}, {}, 0}, refusal}); };
+    auto add = [&](const std::string &name, const Tables &tables, const Refusal &refusal) {
+        known.push_back({name, {tables, {{1, 0}}, {}, 0}, refusal, {}, {}});
+    };
     Tables one = one_path("7");
     std::string roads = write_tables(with_roads(1024)).roads, cells = filled("", "7,8,9\r\n", 7 * 2731);
     add("roads of 65,536 bytes", {filled(roads, "5000,5001,3,1\r\n", 65536), one.carts, one.paths}, {4, roads_table, 1025});
@@ -141,7 +138,7 @@ struct Ranges {
     void add(Table table, const std::string &record, unsigned number) {
         Tables tables = table == roads_table ? one_road(record) : table == carts_table ? one_cart(record) : one_path(record);
         Refusal refusal = number == 0 ? Refusal{} : Refusal{number, table, 1};
-        known.push_back({"table " + std::to_string(table) + ", " + record, {tables, {}, {}, 0}, refusal});
+        known.push_back({"table " + std::to_string(table) + ", " + record, {tables, {}, {}, 0}, refusal, {}, {}});
     }
     void add_all(Table table, unsigned number, const std::vector<std::string> &records) {
         for (const std::string &record : records)
@@ -164,7 +161,7 @@ inline void add_ranges(std::vector<Known> &known) {
     ranges.add_all(paths_table, 1, {"", ",", "7,", "10000000000", "00", "7\r"});
 }
 
-inline std::vector<Known> known_cases() {
+inline std::vector<Known> at_limits() {
     std::vector<Known> known;
     add_counts(known);
     add_sizes(known);
