@@ -58,14 +58,15 @@ inline Plan with_bounds(size_t count) {
     return plan;
 }
 
-/* a cart that must go on and one in its way at the end, which leaves late: the only chain runs along the whole route */
+/* a cart that must go on at its one speed, and one in its way at the end, which leaves late, slowly and by a long margin: the only chain runs along the whole
+   route */
 inline Plan with_long_chain(size_t moves) {
     Plan plan;
     Path first, second;
     for (uint64_t cell = 0; cell <= moves; cell++) {
         first.push_back(cell);
         second.push_back(cell < moves ? moves : moves + 1);
-        plan.roads.push_back(metre(cell, cell + 1));
+        plan.roads.push_back(cell < moves ? metre(cell, cell + 1) : Road{cell, cell + 1, most_length, (most_length - 1) / 2});
     }
     plan.carts = {{quarter_metre, quarter_metre}, {least_speed, std::nullopt}};
     plan.paths = {first, second};
