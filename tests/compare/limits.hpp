@@ -162,8 +162,25 @@ inline void add_ranges(std::vector<Known> &known) {
     ranges.add_all(paths_table, 1, {"", ",", "7,", "10000000000", "00", "7\r"});
 }
 
+/* so many places from one on without a zero */
+inline Changes no_zero(size_t from, size_t count) {
+    Changes changes;
+    for (size_t i = 0; i < count; i++)
+        changes.push_back({from + i, ','});
+    return changes;
+}
+
+/* plan slices whose parts have no zero behind what they hold */
+inline void add_slices(std::vector<Known> &known) {
+    Case filled{one_path("7"), {}, {no_zero(0, plan_need), no_zero(log_carts, most_events), no_zero(log_times, 8 * most_events)}, 0};
+    for (size_t table = 0; table < 3; table++)
+        filled.changes.push_back(no_zero(table * most_bytes, most_bytes));
+    known.push_back({"a plan slice without a zero", filled, {}, {}, {}});
+}
+
 inline std::vector<Known> at_limits() {
     std::vector<Known> known;
+    add_slices(known);
     add_counts(known);
     add_sizes(known);
     add_ranges(known);
