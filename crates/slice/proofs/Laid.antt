@@ -5,12 +5,12 @@ use native.Mathlib.Numerals.{add-one}
 use native.Mathlib.Omega.{arith}
 use mathlib.Core.Path.{_≡_, refl, ap, ap₂, sym, _∙_, subst}
 use mathlib.Core.Logic.{⊎-elim}
-use mathlib.Core.Bool.{Bool, true, false, not, _&&_, cond, and-assoc, and-false}
+use mathlib.Core.Bool.{Bool, true, false, not, _&&_, cond, and-assoc, and-false, and-true}
 use mathlib.Core.List.{List, [], _∷_, _++_, append-assoc}
 use lib.Dec.{eqb, eqb·zero-suc, eqb·suc-zero, lit<, lit≤}
 use lib.ListN.{length, take, drop, getD, replicate, length-append, length-take, length-drop, length-map, replicate-append-replicate, List·getD-eq-default, drop-of-length-le}
 use lib.Seq.{take-nil, take-add, take-all, drop-drop, drop-cons, length-take-le, getD-take, getD-drop}
-use borrow.Author.Tests.{not-true, not-false, eq-eqb, ne-eqb}
+use borrow.Author.Tests.{not-true, not-false, eq-eqb, ne-eqb, eqb-true}
 use Rattle.laws.proofs.Tests.{passes, below-or-not}
 use Rattle.words.specs.Words.{little, word, words, padded}
 use Rattle.words.proofs.Padding.{padded-length}
@@ -93,23 +93,34 @@ text-over s i h = ap (λ (x : List ℕ). length (until-zero x)) (drop-of-length-
 
 -- ---- nothing but zeros
 
--- but for another byte
-pub zeros-end : (s : List ℕ) (i : ℕ) → i < length s → (getD s i 0 ≡ 0 → ⊥) → only-zeros (drop i s) ≡ false
+-- one byte more
+zeros-cons : (s : List ℕ) (i : ℕ) → i < length s → only-zeros (drop i s) ≡ (eqb (getD s i 0) 0 && only-zeros (drop (i + 1) s))
 unfolding only-zeros
-zeros-end s i h e =
-    ap only-zeros (drop-cons s i 0 h) ∙ ap (λ (t : Bool). t && only-zeros (drop (suc i) s)) (ne-eqb (getD s i 0) 0 e)
+zeros-cons s i h = ap only-zeros (drop-cons s i 0 h) ∙ ap (λ (j : ℕ). eqb (getD s i 0) 0 && only-zeros (drop j s)) (sym (add-one i))
 
--- one zero more
-pub zeros-go : (s : List ℕ) (i : ℕ) → i < length s → getD s i 0 ≡ 0 → only-zeros (drop i s) ≡ only-zeros (drop (i + 1) s)
-unfolding only-zeros
-zeros-go s i h e =
-    ap only-zeros (drop-cons s i 0 h) ∙ ap (λ (t : Bool). t && only-zeros (drop (suc i) s)) (eq-eqb (getD s i 0) 0 e)
-    ∙ ap (λ (j : ℕ). only-zeros (drop j s)) (sym (add-one i))
+module _ (s : List ℕ) (i m : ℕ) (h : i < length s) where
+  -- one that is greater than those before it
+  pub zeros-greater : m < getD s i 0 → (eqb m 0 && only-zeros (drop i s)) ≡ (eqb (getD s i 0) 0 && only-zeros (drop (i + 1) s))
+  zeros-greater l =
+      let other : eqb (getD s i 0) 0 ≡ false = ne-eqb (getD s i 0) 0 (λ e. omega arith) in
+      ap (λ (t : Bool). eqb m 0 && t) (zeros-cons s i h ∙ ap (λ (t : Bool). t && only-zeros (drop (i + 1) s)) other)
+      ∙ and-false (eqb m 0)
+      ∙ sym (ap (λ (t : Bool). t && only-zeros (drop (i + 1) s)) other)
+
+  -- or is not
+  pub zeros-not-greater : getD s i 0 ≤ m → (eqb m 0 && only-zeros (drop i s)) ≡ (eqb m 0 && only-zeros (drop (i + 1) s))
+  zeros-not-greater l = by (eqb m 0) refl
+    where
+      by : (t : Bool) → eqb m 0 ≡ t → (t && only-zeros (drop i s)) ≡ (t && only-zeros (drop (i + 1) s))
+      by true e =
+          let none : m ≡ 0 = eqb-true m 0 e in
+          zeros-cons s i h ∙ ap (λ (t : Bool). t && only-zeros (drop (i + 1) s)) (eq-eqb (getD s i 0) 0 (omega arith))
+      by false e = refl
 
 -- to the end
-pub zeros-all : (s : List ℕ) (i : ℕ) → length s ≤ i → only-zeros (drop i s) ≡ true
+pub zeros-all : (s : List ℕ) (i m : ℕ) → length s ≤ i → (eqb m 0 && only-zeros (drop i s)) ≡ eqb m 0
 unfolding only-zeros
-zeros-all s i h = ap only-zeros (drop-of-length-le s {i = i} h)
+zeros-all s i m h = ap (λ (x : List ℕ). eqb m 0 && only-zeros x) (drop-of-length-le s {i = i} h) ∙ and-true (eqb m 0)
 
 -- a part is no longer than its size
 pub part-most : (m : ℕ) (l : List ℕ) → length (take m l) ≤ m

@@ -1,19 +1,21 @@
--- `slice::parts::all_zero` meets its contract: the bytes from there on, as far as they are passed, are zeros. Assumes nothing.
-use mathlib.Core.Path.{_≡_, refl, sym, _∙_}
-use Prim.Native.Nat.{_-_}
-use native.Mathlib.Omega.{arith}
+-- `slice::parts::all_zero` meets its contract: all bytes from there on are zeros where the greatest of those passed is zero and the others are zeros. Assumes nothing.
+use Prim.Native.Nat.{ℕ, _+_, _-_, _<_}
+use mathlib.Core.Path.{_≡_, refl, ap, sym, _∙_}
+use mathlib.Core.Bool.{_&&_}
+use mathlib.Core.Logic.{⊎-elim}
+use lib.Dec.{eqb}
 use lib.ListN.{length, drop}
 use borrow.Author.Needs.{needs}
 use Rattle.slice.specs.Holding.{only-zeros}
-use Rattle.slice.proofs.Laid.{zeros-end, zeros-go, zeros-all}
+use Rattle.slice.proofs.Laid.{zeros-greater, zeros-not-greater, zeros-all}
 use Rattle.slice.proofs.parts.all_zero.Statement.{statement}
 use Rattle.slice.proofs.parts.all_zero.Tie as tie
 
 abbrev Inv-loop : tie.InvT-loop
-Inv-loop s from i₀ i = only-zeros (drop from s) ≡ only-zeros (drop i s)
+Inv-loop s from most₀ i₀ most i = only-zeros (drop from s) ≡ (eqb most 0 && only-zeros (drop i s))
 
 abbrev μ-loop : tie.MeasureT-loop
-μ-loop s from i₀ i = length s - i
+μ-loop s from most₀ i₀ most i = length s - i
 
 loop-holds : tie.Need-loop-holds Inv-loop μ-loop
 loop-holds c = refl
@@ -21,11 +23,8 @@ loop-holds c = refl
 shared-slice-read-if1 : tie.Need-shared-slice-read-if1 Inv-loop μ-loop
 shared-slice-read-if1 c = search needs
 
-returns : tie.Need-returns Inv-loop μ-loop
-returns c =
-    let l = c .before .before .before .loop in
-    let s = c .before .before .before .before .args .s .now in
-    sym (l .inv ∙ zeros-end s (l .i) (omega arith) (c .if1 .taken))
+shared-slice-read-most : tie.Need-shared-slice-read-most Inv-loop μ-loop
+shared-slice-read-most c = search needs
 
 add-i : tie.Need-add-i Inv-loop μ-loop
 add-i c = search needs
@@ -35,15 +34,31 @@ loop-less c = search needs
 
 loop-again : tie.Need-loop-again Inv-loop μ-loop
 loop-again c =
-    let l = c .before .before .before .loop in
-    let s = c .before .before .before .before .args .s .now in
-    l .inv ∙ zeros-go s (l .i) (omega arith) (c .if1 .left)
+    let l = c .before .before .before in
+    let s = l .before .args .s .now in
+    let i : ℕ = l .loop .i in
+    let t : i < length s = c .before .before .loop-test .taken in
+    l .loop .inv
+    ∙ ⊎-elim
+    (λ w. zeros-greater s i (l .loop .most) t (w .0 .taken) ∙ ap (λ (m : ℕ). eqb m 0 && only-zeros (drop (i + 1) s)) (sym (w .2)))
+    (λ w. zeros-not-greater s i (l .loop .most) t (w .0 .left) ∙ ap (λ (m : ℕ). eqb m 0 && only-zeros (drop (i + 1) s)) (sym (w .1)))
+    (c .if1 .came)
 
-returns-2 : tie.Need-returns-2 Inv-loop μ-loop
-returns-2 c =
-    let l = c .before .loop in
-    let s = c .before .before .args .s .now in
-    sym (l .inv ∙ zeros-all s (l .i) (omega arith))
+returns : tie.Need-returns Inv-loop μ-loop
+returns c =
+    let l = c .before in
+    sym (l .loop .inv ∙ zeros-all (l .before .args .s .now) (l .loop .i) (l .loop .most) (c .loop-test .left))
 
 pub all-zero-spec : {M : Type 1} → statement M
-all-zero-spec = tie.close (tie.spec Inv-loop μ-loop loop-holds shared-slice-read-if1 returns add-i loop-less loop-again returns-2)
+all-zero-spec =
+    tie.close
+    (tie.spec
+    Inv-loop
+    μ-loop
+    loop-holds
+    shared-slice-read-if1
+    shared-slice-read-most
+    add-i
+    loop-less
+    loop-again
+    returns)
