@@ -1,5 +1,6 @@
 pub mod Stores
 pub mod Parts
+pub mod Links
 pub mod Moves
 pub mod Whole
 pub mod Fits

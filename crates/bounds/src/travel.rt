@@ -2,15 +2,17 @@
 use crate::Track;
 ghost use mathlib.Core.Path.{_≡_};
 ghost use mathlib.Core.List.{flatMap};
-ghost use Prim.Native.Nat.{_+_, _*_, _-_, _≤_, _<_, _^_};
-ghost use lib.ListN.{length, take, drop};
+ghost use Prim.Native.Nat.{ℕ, _+_, _*_, _-_, _≤_, _<_, _^_};
+ghost use lib.ListN.{length, take, drop, getD};
 ghost use lib.Seq.{sets};
 ghost use Rattle.floor.specs.Plan.{joins};
 ghost use Rattle.tables.specs.Arrays.{roads-in, carts-in, paths-in};
+ghost use Rattle.tables.specs.Index.{bucket};
 ghost use Rattle.network.specs.Events.{routes};
 ghost use Rattle.network.specs.Bounds.{div-up, most-time, travel-bounds};
 ghost use Rattle.network.specs.BoundArrays.{bound-ends, bound-range, hi-number};
 ghost use Rattle.limits.specs.Counts.{total, moves};
+ghost use Rattle.bounds.specs.Links.{RoadsLinked};
 ghost use Rattle.bounds.specs.Writing.{speed-of, cart-of, road-of, road-found, part-bound, move-bounds, path-bounds};
 
 // Whether a road between two cells joins a and b, in either direction.
@@ -28,21 +30,48 @@ fn is_between(from: u32, to: u32, a: u32, b: u32) -> bool
     false
 }
 
-// The length and the margin of the road between two cells, 0 where there is none.
-fn find_road(edges: &[u32], roads: usize, a: u32, b: u32) -> Track
+// The remainder that a road between two cells is linked by.
+fn bucket_of(a: u32, b: u32) -> usize
+    ensures { λ r. ⌜ (r ≡ bucket a b) × (r < 1024) ⌝ }
+{
+    ((a as u64 + b as u64) % 1024) as usize
+}
+
+// Links the roads, the last first: to each the next of its remainder, by how many roads are left from there on. A move is then looked up among a
+// few roads.
+fn link_roads(edges: &[u32], roads: usize, heads: &mut [u16], nexts: &mut [u16])
+    requires { ⌜ (roads ≤ 1024) × (4 * roads ≤ length (now edges)) × (length (now heads) ≡ 1024) × (length (now nexts) ≡ 1024) ⌝ }
+    requires { ⌜ ((b : ℕ) → b < 1024 → getD (now heads) b 0 ≡ 0) ⌝ }
+    ensures { λ _. ⌜ RoadsLinked roads (now (edges .entry)) (now (heads .exit)) (now (nexts .exit)) ⌝ }
+{
+    let mut left: usize = 0;
+    while left < roads {
+        left += 1;
+        let i = roads - left;
+        let b = bucket_of(edges[4 * i], edges[4 * i + 1]);
+        nexts[i] = heads[b];
+        heads[b] = left as u16;
+    }
+}
+
+// The length and the margin of the road between two cells, 0 where there is none. The roads of their remainder are gone through in the table's
+// order, since the first that joins them counts.
+fn find_road(edges: &[u32], roads: usize, heads: &[u16], nexts: &[u16], a: u32, b: u32) -> Track
     requires { ⌜ (roads ≤ 1024) × (4 * roads ≤ length (now edges)) ⌝ }
+    requires { ⌜ RoadsLinked roads (now edges) (now heads) (now nexts) ⌝ }
     ensures { λ r. ⌜ r .length ≡ road-found (roads-in roads (now (edges .entry))) a b .length ⌝ }
     ensures { λ r. ⌜ r .margin ≡ road-found (roads-in roads (now (edges .entry))) a b .margin ⌝ }
 {
-    let mut i: usize = 0;
-    while i < roads {
+    let mut left = heads[bucket_of(a, b)] as usize;
+    while 0 < left {
+        let i = roads - left;
         if is_between(edges[4 * i], edges[4 * i + 1], a, b) {
             return Track {
                 length: edges[4 * i + 2],
                 margin: edges[4 * i + 3],
             };
         }
-        i += 1;
+        left = nexts[i] as usize;
     }
     Track {
         length: 0,
@@ -130,6 +159,8 @@ fn put_parts(
 fn put_move(
     edges: &[u32],
     roads: usize,
+    heads: &[u16],
+    nexts: &[u16],
     a: u32,
     b: u32,
     fastest: u32,
@@ -140,13 +171,14 @@ fn put_move(
     ranges: &mut [u64],
 )
     requires { ⌜ (roads ≤ 1024) × (4 * roads ≤ length (now edges)) ⌝ }
+    requires { ⌜ RoadsLinked roads (now edges) (now heads) (now nexts) ⌝ }
     requires { ⌜ (e + 3 ≤ 4096) × (2 * (k + 3) ≤ length (now ends)) × (2 * (k + 3) ≤ length (now ranges)) ⌝ }
     ensures { λ _. ⌜ now (ends .exit) ≡ sets (now (ends .entry)) (2 * k)
         (flatMap bound-ends (move-bounds (cart-of fastest slowest) e (road-found (roads-in roads (now (edges .entry))) a b))) ⌝ }
     ensures { λ _. ⌜ now (ranges .exit) ≡ sets (now (ranges .entry)) (2 * k)
         (flatMap bound-range (move-bounds (cart-of fastest slowest) e (road-found (roads-in roads (now (edges .entry))) a b))) ⌝ }
 {
-    let track = find_road(edges, roads, a, b);
+    let track = find_road(edges, roads, heads, nexts, a, b);
     put_parts(track, fastest, slowest, e, k, ends, ranges);
 }
 
@@ -155,6 +187,8 @@ fn travel_of(
     edges: &[u32],
     cells: &[u32],
     roads: usize,
+    heads: &[u16],
+    nexts: &[u16],
     at: usize,
     steps: usize,
     fastest: u32,
@@ -165,6 +199,7 @@ fn travel_of(
     ranges: &mut [u64],
 ) -> usize
     requires { ⌜ (roads ≤ 1024) × (4 * roads ≤ length (now edges)) × (1 ≤ steps) × (at + steps ≤ length (now cells)) ⌝ }
+    requires { ⌜ RoadsLinked roads (now edges) (now heads) (now nexts) ⌝ }
     requires { ⌜ (e + 3 * moves (take steps (drop at (now cells))) ≤ 4096) × (k + 3 * moves (take steps (drop at (now cells))) ≤ 8192) ⌝ }
     requires { ⌜ (16_384 ≤ length (now ends)) × (16_384 ≤ length (now ranges)) ⌝ }
     ensures { λ r. ⌜ r ≡ k + 3 * moves (take steps (drop at (now (cells .entry)))) ⌝ }
@@ -180,12 +215,81 @@ fn travel_of(
     while s < steps {
         let d = cells[at + s];
         if c != d {
-            put_move(edges, roads, c, d, fastest, slowest, f, n, ends, ranges);
+            put_move(
+                edges,
+                roads,
+                heads,
+                nexts,
+                c,
+                d,
+                fastest,
+                slowest,
+                f,
+                n,
+                ends,
+                ranges,
+            );
             f += 3;
             n += 3;
         }
         c = d;
         s += 1;
+    }
+    n
+}
+
+// Puts the travel bounds of all carts in two arrays, from the k-th place on, with the roads linked; returns the place behind them.
+fn travel_of_all(
+    edges: &[u32],
+    speeds: &[u32],
+    cells: &[u32],
+    roads: usize,
+    heads: &[u16],
+    nexts: &[u16],
+    carts: usize,
+    steps: usize,
+    k: usize,
+    ends: &mut [u16],
+    ranges: &mut [u64],
+) -> usize
+    requires { ⌜ (roads ≤ 1024) × (4 * roads ≤ length (now edges)) × (carts ≤ 64) × (2 * carts ≤ length (now speeds)) ⌝ }
+    requires { ⌜ RoadsLinked roads (now edges) (now heads) (now nexts) ⌝ }
+    requires { ⌜ (1 ≤ steps) × (steps ≤ 1024) × (carts * steps ≤ length (now cells)) ⌝ }
+    requires { ⌜ 1 + carts + 3 * total moves (paths-in carts steps (now cells)) ≤ 4096 ⌝ }
+    requires { ⌜ k + 3 * total moves (paths-in carts steps (now cells)) ≤ 8192 ⌝ }
+    requires { ⌜ (16_384 ≤ length (now ends)) × (16_384 ≤ length (now ranges)) ⌝ }
+    ensures { λ r. ⌜ r ≡ k + 3 * total moves (paths-in carts steps (now (cells .entry))) ⌝ }
+    ensures { λ _. ⌜ now (ends .exit) ≡ sets (now (ends .entry)) (2 * k)
+        (flatMap bound-ends (travel-bounds (roads-in roads (now (edges .entry))) (routes 1 1 (carts-in carts (now (speeds .entry))) (paths-in carts steps (now (cells .entry)))))) ⌝ }
+    ensures { λ _. ⌜ now (ranges .exit) ≡ sets (now (ranges .entry)) (2 * k)
+        (flatMap bound-range (travel-bounds (roads-in roads (now (edges .entry))) (routes 1 1 (carts-in carts (now (speeds .entry))) (paths-in carts steps (now (cells .entry)))))) ⌝ }
+{
+    let mut e: u16 = 1;
+    let mut n = k;
+    let mut i: usize = 0;
+    let mut at: usize = 0;
+    while i < carts {
+        let fastest = speeds[2 * i];
+        let slowest = speeds[2 * i + 1];
+        let m = travel_of(
+            edges,
+            cells,
+            roads,
+            heads,
+            nexts,
+            at,
+            steps,
+            fastest,
+            slowest,
+            e,
+            n,
+            ends,
+            ranges,
+        );
+        e += (m - n) as u16 + 1;
+        n = m;
+        at += steps;
+        i += 1;
     }
     n
 }
@@ -213,30 +317,20 @@ pub(crate) fn write_travel(
     ensures { λ _. ⌜ now (ranges .exit) ≡ sets (now (ranges .entry)) (2 * k)
         (flatMap bound-range (travel-bounds (roads-in roads (now (edges .entry))) (routes 1 1 (carts-in carts (now (speeds .entry))) (paths-in carts steps (now (cells .entry)))))) ⌝ }
 {
-    let mut e: u16 = 1;
-    let mut n = k;
-    let mut i: usize = 0;
-    let mut at: usize = 0;
-    while i < carts {
-        let fastest = speeds[2 * i];
-        let slowest = speeds[2 * i + 1];
-        let m = travel_of(
-            edges,
-            cells,
-            roads,
-            at,
-            steps,
-            fastest,
-            slowest,
-            e,
-            n,
-            ends,
-            ranges,
-        );
-        e += (m - n) as u16 + 1;
-        n = m;
-        at += steps;
-        i += 1;
-    }
-    n
+    let mut heads: [u16; 1024] = [0; 1024];
+    let mut nexts: [u16; 1024] = [0; 1024];
+    link_roads(edges, roads, &mut heads, &mut nexts);
+    travel_of_all(
+        edges,
+        speeds,
+        cells,
+        roads,
+        &heads,
+        &nexts,
+        carts,
+        steps,
+        k,
+        ends,
+        ranges,
+    )
 }

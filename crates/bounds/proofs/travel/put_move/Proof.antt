@@ -29,7 +29,7 @@ returns : tie.Need-returns
 returns c =
     let p = c .before .before .before .before in
     let r = p .before .before .before in
-    let a = r .before .before .before .before .args in
+    let a = r .before .before .before .before .before .before .args in
     let same : move-bounds (cart-of (a .fastest) (a .slowest)) (a .e) (road-of (r .find-road .result .length) (r .find-road .result .margin))
     ≡ move-bounds (cart-of (a .fastest) (a .slowest)) (a .e) (road-found (roads-in (a .roads) (a .edges .now)) (a .a) (a .b)) =
     by-lengths (cart-of (a .fastest) (a .slowest)) (a .e) (r .find-road .result .length) (r .find-road .result .margin)

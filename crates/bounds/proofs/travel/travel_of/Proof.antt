@@ -22,7 +22,7 @@ use Rattle.bounds.proofs.travel.travel_of.Statement.{statement}
 use Rattle.bounds.proofs.travel.travel_of.Tie as tie
 
 abbrev Inv-loop : tie.InvT-loop
-Inv-loop edges cells roads at steps fastest slowest e k ends₀ ranges₀ c₀ f₀ n₀ s₀ ends ranges c f n s =
+Inv-loop edges cells roads heads nexts at steps fastest slowest e k ends₀ ranges₀ c₀ f₀ n₀ s₀ ends ranges c f n s =
     (1 ≤ s) × (s ≤ steps) × (length ends ≡ length ends₀) × (length ranges ≡ length ranges₀) × (f + k ≡ e + n)
     × (n + 3 * moves-after c (steps-from cells at steps s) ≡ k + 3 * moves (take steps (drop at cells)))
     × (sets ends (2 * n) (flatMap bound-ends (along (roads-in roads edges) (cart-of fastest slowest) f c (visits-after c s (steps-from cells at steps s))))
@@ -31,7 +31,7 @@ Inv-loop edges cells roads at steps fastest slowest e k ends₀ ranges₀ c₀ f
     ≡ sets ranges₀ (2 * k) (flatMap bound-range (path-bounds (roads-in roads edges) (cart-of fastest slowest) e (take steps (drop at cells)))))
 
 abbrev μ-loop : tie.MeasureT-loop
-μ-loop edges cells roads at steps fastest slowest e k ends₀ ranges₀ c₀ f₀ n₀ s₀ ends ranges c f n s = steps - s
+μ-loop edges cells roads heads nexts at steps fastest slowest e k ends₀ ranges₀ c₀ f₀ n₀ s₀ ends ranges c f n s = steps - s
 
 mul-c : tie.Need-mul-c Inv-loop μ-loop
 mul-c c = search needs
@@ -41,7 +41,7 @@ shared-slice-read-c c = search needs
 
 loop-holds : tie.Need-loop-holds Inv-loop μ-loop
 loop-holds c =
-    let z = c .before .before .before .before .before in
+    let z = c .before .before .before .before .before .before .before in
     let a = z .args in
     let h : a .at + a .steps ≤ length (a .cells .now) = omega arith in
     let first : path-bounds (roads-in (a .roads) (a .edges .now)) (cart-of (a .fastest) (a .slowest)) (a .e) (take (a .steps) (drop (a .at) (a .cells .now)))
@@ -71,11 +71,11 @@ shared-slice-read-d c = search needs
 room : (c : tie.Then1 Inv-loop μ-loop) → (c .before .before .before .loop .f + 3 ≤ 4096) × (c .before .before .before .loop .n + 3 ≤ 8192)
 room c =
     let l = c .before .before .before in
-    let z = l .before .before .before .before .before .before in
+    let z = l .before .before .before .before .before .before .before .before in
     let a = z .args in
     let h : a .at + a .steps ≤ length (a .cells .now) = omega arith in
-    let x : a .e + 3 * moves (take (a .steps) (drop (a .at) (a .cells .now))) ≤ 4096 = z .pre .1 .0 .0 in
-    let y : a .k + 3 * moves (take (a .steps) (drop (a .at) (a .cells .now))) ≤ 8192 = z .pre .1 .0 .1 in
+    let x : a .e + 3 * moves (take (a .steps) (drop (a .at) (a .cells .now))) ≤ 4096 = z .pre .1 .1 .0 .0 in
+    let y : a .k + 3 * moves (take (a .steps) (drop (a .at) (a .cells .now))) ≤ 8192 = z .pre .1 .1 .0 .1 in
     let u : l .loop .f + a .k ≡ a .e + l .loop .n = l .loop .inv .4 in
     let v : l .loop .n + 3 * moves-after (l .loop .c) (steps-from (a .cells .now) (a .at) (a .steps) (l .loop .s)) ≡ a .k + 3 * moves (take (a .steps) (drop (a .at) (a .cells .now))) = l .loop .inv .5 in
     let more : moves-after (l .loop .c) (steps-from (a .cells .now) (a .at) (a .steps) (l .loop .s))
@@ -85,8 +85,10 @@ room c =
 
 put-move-requires : tie.Need-put-move-requires Inv-loop μ-loop
 put-move-requires c κs =
-    let r = room (c .before .before) in
-    (search needs, (r .0, omega (arith, r .1), omega (arith, r .1)))
+    let t = c .before .before in
+    let z = t .before .before .before .before .before .before .before .before .before .before .before in
+    let r = room t in
+    (search needs, (z .pre .1 .0, (r .0, omega (arith, r .1), omega (arith, r .1))))
 
 add-f : tie.Need-add-f Inv-loop μ-loop
 add-f c = omega (arith, room (c .before .before .before .before .before .before .before) .0)
@@ -103,7 +105,7 @@ loop-less c = search needs
 loop-again : tie.Need-loop-again Inv-loop μ-loop
 loop-again c =
     let l = c .before .before .before in
-    let a = l .before .before .before .before .before .before .args in
+    let a = l .before .before .before .before .before .before .before .before .args in
     let h : a .at + a .steps ≤ length (a .cells .now) = omega arith in
     let t : l .loop .s < a .steps = c .before .before .loop-test .taken in
     let roads : List Road = roads-in (a .roads) (a .edges .now) in
@@ -114,8 +116,8 @@ loop-again c =
     (λ w. (
       omega arith,
       omega arith,
-      ap (λ (x : List ℕ). length x) (w .8) ∙ w .3 .kept .1 .1 .1 .1 .1 .1 .1 .1 .0 ∙ l .loop .inv .2,
-      ap (λ (x : List ℕ). length x) (w .9) ∙ w .3 .kept .1 .1 .1 .1 .1 .1 .1 .1 .1 .0 ∙ l .loop .inv .3,
+      ap (λ (x : List ℕ). length x) (w .8) ∙ w .3 .kept .1 .1 .1 .1 .1 .1 .1 .1 .1 .1 .0 ∙ l .loop .inv .2,
+      ap (λ (x : List ℕ). length x) (w .9) ∙ w .3 .kept .1 .1 .1 .1 .1 .1 .1 .1 .1 .1 .1 .0 ∙ l .loop .inv .3,
       omega (arith, u, w .10, w .11),
       omega (arith, v, w .11, moves-move (a .cells .now) (a .at) (a .steps) h (l .loop .c) (l .loop .s) t (w .0 .taken)),
       moved-stored roads cart (a .cells .now) (a .at) (a .steps) h bound-ends by-ends (l .loop .f) (l .loop .n) (l .loop .c) (l .loop .s) t
@@ -150,7 +152,7 @@ same-length-2 c = search needs
 returns : tie.Need-returns Inv-loop μ-loop
 returns c =
     let l = c .before in
-    let a = l .before .before .before .before .before .before .args in
+    let a = l .before .before .before .before .before .before .before .before .args in
     let h : a .at + a .steps ≤ length (a .cells .now) = omega arith in
     let roads : List Road = roads-in (a .roads) (a .edges .now) in
     let cart : Cart = cart-of (a .fastest) (a .slowest) in
