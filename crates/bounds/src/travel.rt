@@ -132,7 +132,8 @@ fn put_part(
     crate::put_bound(ends, ranges, k, e, e + 1, lo, hi);
 }
 
-// Puts the three travel bounds of a move along a road, the first from event e, in two arrays from the k-th place on.
+// Puts the three travel bounds of a move along a road, the first from event e, in two arrays from the k-th place on. The first and the last part
+// are as long as each other, so that their times are computed once.
 fn put_parts(
     track: Track,
     fastest: u32,
@@ -150,9 +151,12 @@ fn put_parts(
 {
     let margin = track.margin;
     let rest = rest_length(track.length, margin);
-    put_part(margin, fastest, slowest, e, k, ends, ranges);
+    let lo = least_time(margin, fastest);
+    let hi = most_time(margin, slowest);
+    let last = e + 2;
+    crate::put_bound(ends, ranges, k, e, e + 1, lo, hi);
     put_part(rest, fastest, slowest, e + 1, k + 1, ends, ranges);
-    put_part(margin, fastest, slowest, e + 2, k + 2, ends, ranges);
+    crate::put_bound(ends, ranges, k + 2, last, last + 1, lo, hi);
 }
 
 // Puts those of a move from cell a to cell b.
