@@ -49,7 +49,7 @@ module _ (n : ℕ) (s : List ℕ) where
   sums = cell-sums (roads-in n s)
 
   -- the remainder of the road at place i
-  pub remainder-at : (i : ℕ) → i < n → getD sums i 0 % 1024 ≡ bucket (getD s (4 * i) 0) (getD s (4 * i + 1) 0)
+  remainder-at : (i : ℕ) → i < n → getD sums i 0 % 1024 ≡ bucket (getD s (4 * i) 0) (getD s (4 * i + 1) 0)
   unfolding bucket
   remainder-at i l = ap (λ (m : ℕ). m % 1024) (sum-at n i s l)
 
@@ -108,7 +108,6 @@ module _ (n : ℕ) (s : List ℕ) where
         -- the next, of the roads after the one at hand
         next-is : getD nexts (n - left) 0 ≡ left-in sums (bucket a b) (left - 1) (n - (left - 1))
         next-is =
-            let one : left ≡ suc (left - 1) = omega arith in
             let here : n - left ≡ n - suc (left - 1) = omega arith in
             ap (λ (m : ℕ). getD nexts m 0) here
             ∙ k .nexts-are (left - 1) (omega (arith, w .0))
