@@ -10,3 +10,7 @@ pub mod Outcomes
 pub mod Copying
 pub mod Running
 pub mod Networks
+pub mod ArcWeights
+pub mod Checks
+pub mod BoundChecks
+pub mod Sweeps

@@ -1,3 +1,4 @@
 pub mod Solving
 pub mod Marks
 pub mod Places
+pub mod Values

@@ -1,7 +1,10 @@
 // Times of a network of bounds, by passes over its arcs, or a chain. The bounds are in two arrays: the events that each goes from and
 // to, and its lo and one more than its hi, 0 where hi is none. What is answered and written is defined in specs/.
+mod certificate;
 mod links;
 mod passing;
+mod sweeping;
+mod weights;
 
 ghost use mathlib.Core.Path.{_≡_};
 ghost use Prim.Native.Nat.{_+_, _*_, _≤_, _<_};
