@@ -14,3 +14,4 @@ pub mod ArcWeights
 pub mod Checks
 pub mod BoundChecks
 pub mod Sweeps
+pub mod Believing

@@ -19,9 +19,10 @@ use Rattle.schedule.specs.Timetable.{time, ways, timetable-of}
 use Rattle.schedule.specs.Lent.{Lent, long-enough, times-written, chain-written}
 use Rattle.schedule.proofs.Lent.{Room, room, room-passes}
 use Rattle.passes.specs.declared.Run.{Run}
+use Rattle.passes.specs.declared.Found.{Found}
 use Rattle.passes.specs.declared.Solved.{Solved}
 use Rattle.passes.specs.Solving.{times-of, Solves, timed, cycle}
-use Rattle.passes.specs.Marks.{low, sum-at, sums-in, parents-in, Coded, Ran, settles, raises-on, ChainFound}
+use Rattle.passes.specs.Marks.{low, sum-at, sums-in, parents-in, Coded, Ran, settles, raises-on, Finds, finds-times, finds-nothing, ChainFound}
 use Rattle.passes.proofs.Marks.{low-none}
 
 -- ---- how the passes end
@@ -48,6 +49,15 @@ ran-raised bs n m old codes r v q ran e = subst (λ (i : ℕ). RaisedOn bs i cod
     by : Ran bs n old codes (Run.Raised v) → RaisedOn bs n codes v
     by (raises-on u q l t c) = record { unsettled = q; below = l; trapped = t; coded = c }
 
+-- ---- what the fast way finds
+
+pub found-times : (bs : List Bound) (n : ℕ) (sums : List ℤ) (r : Found) (k : ℕ) → Finds bs n sums r → r ≡ Found.Settled k
+    → settled (flatMap ways bs) n ≡ some (record { passes = k; sums = sums-in sums })
+found-times bs n sums r k f e = by (subst (Finds bs n sums) e f)
+  where
+    by : Finds bs n sums (Found.Settled k) → settled (flatMap ways bs) n ≡ some (record { passes = k; sums = sums-in sums })
+    by (finds-times i q) = q
+
 -- ---- what is left
 
 module _ (own n : ℕ) (bs : List Bound) (l : Lent) where
@@ -70,7 +80,7 @@ module _ (own n : ℕ) (bs : List Bound) (l : Lent) where
 -- ---- at first
 
 -- part of what is the same everywhere
-take-replicate : {A : Type 0} (n k : ℕ) (a : A) → n ≤ k → take n (replicate k a) ≡ replicate n a
+pub take-replicate : {A : Type 0} (n k : ℕ) (a : A) → n ≤ k → take n (replicate k a) ≡ replicate n a
 take-replicate zero k a h = refl
 take-replicate (suc n) zero a h = absurd (omega arith)
 take-replicate {A} (suc n) (suc k) a h = ap (λ (l : List A). a ∷ l) (take-replicate n k a (omega arith))

@@ -3,9 +3,11 @@ use Prim.Native.Nat.{ℕ, zero, suc, _+_, _*_, _≤_, _<_}
 use native.Mathlib.Omega.{arith}
 use mathlib.Core.Path.{_≡_, refl, ap, sym, _∙_, subst}
 use mathlib.Core.Bool.{true}
-use mathlib.Core.List.{List}
-use lib.IntN.{ℤ}
-use lib.ListN.{length, getD, take, replicate}
+use mathlib.Core.List.{List, [], _∷_}
+use lib.IntN.{ℤ, pos, negsuc}
+use lib.ListN.{length, getD, take, set, replicate, length-set, length-replicate}
+use lib.Seq.{length-take-le}
+use Rattle.laws.proofs.Signed.{Within}
 use Rattle.network.specs.Bounds.{Bound}
 use Rattle.network.specs.BoundArrays.{bounds-in}
 use Rattle.passes.specs.Solving.{bound-fits, bounds-fit, no-bound}
@@ -13,6 +15,9 @@ use Rattle.passes.specs.Places.{bound-at}
 use Rattle.passes.specs.Marks.{Coded}
 use Rattle.passes.specs.Values.{InRange}
 use Rattle.passes.proofs.Fitting.{bounds-length, bound-is, place-fits}
+use Rattle.passes.proofs.Codes.{none-coded}
+use Rattle.passes.proofs.Outcomes.{take-replicate}
+use Rattle.passes.proofs.Checks.{range-set}
 
 -- no event is marked at first
 pub none-marked : (n k v : ℕ) → _≡_ {A = ℕ} (getD (take n (replicate k 0)) v 0) 0
@@ -45,3 +50,33 @@ module _ (m n : ℕ) (ends ranges : List ℕ) where
     range = r;
     coded = c (bounds-in m ends ranges) (omega (arith, bounds-length m ends ranges)) (bound-is m ends ranges i no-bound h) (k .coded);
   }
+
+-- ---- at first
+
+-- as many values as events
+pub values-long : (n k : ℕ) → n ≤ k → n ≡ length (take n (set (replicate k (negsuc 1_152_921_504_606_846_975)) 0 (pos 0)))
+values-long n k h =
+    let l : List ℤ = replicate k (negsuc 1_152_921_504_606_846_975) in
+    sym (length-take-le n (set l 0 (pos 0)) (omega (arith, length-set l 0 (pos 0), length-replicate k (negsuc 1_152_921_504_606_846_975))))
+
+-- in their range
+replicate-range : (n : ℕ) (z : ℤ) → Within 1_152_921_504_606_846_976 z → InRange (replicate n z)
+replicate-range zero z w v = record { above = omega arith; under = omega arith }
+replicate-range (suc n) z w zero = w
+replicate-range (suc n) z w (suc v) = replicate-range n z w v
+
+take-range : (n : ℕ) (values : List ℤ) → InRange values → InRange (take n values)
+take-range zero values r v = record { above = omega arith; under = omega arith }
+take-range (suc n) [] r v = record { above = omega arith; under = omega arith }
+take-range (suc n) (x ∷ xs) r zero = r zero
+take-range (suc n) (x ∷ xs) r (suc v) = take-range n xs (λ u. r (suc u)) v
+
+pub first-range : (n k : ℕ) → InRange (take n (set (replicate k (negsuc 1_152_921_504_606_846_975)) 0 (pos 0)))
+first-range n k =
+    take-range n (set (replicate k (negsuc 1_152_921_504_606_846_975)) 0 (pos 0))
+    (range-set (replicate k (negsuc 1_152_921_504_606_846_975)) 0 (pos 0)
+    (replicate-range k (negsuc 1_152_921_504_606_846_975) (record { above = omega arith; under = omega arith })) (record { above = omega arith; under = omega arith }))
+
+-- and no parents
+pub first-coded : (bs : List Bound) (n k : ℕ) → n ≤ k → Coded bs (take n (replicate k 0))
+first-coded bs n k h = subst (Coded bs) (sym (take-replicate n k 0 h)) (none-coded bs n)

@@ -15,6 +15,7 @@ use Rattle.walks.specs.Parents.{Parents, Trapped}
 use Rattle.schedule.specs.Timetable.{ways}
 use Rattle.schedule.specs.Chain.{Item, direction-number, Leg, cost, closed-below-0}
 use Rattle.passes.specs.declared.Run.{Run}
+use Rattle.passes.specs.declared.Found.{Found}
 use Rattle.passes.specs.Solving.{Pick, no-bound, picked-legs, picked}
 
 -- the mark of an event that no walk has reached: −2^62
@@ -59,6 +60,11 @@ pub data Ran (bs : List Bound) (n : ℕ) (old : List ℤ) (parents : List ℕ) :
   raises-on : (v : ℕ) → settled (flatMap ways bs) n ≡ none → v < n
       → Trapped (flatMap ways bs) n (parents-in bs parents) v → Coded bs parents
       → Ran bs n old parents (Run.Raised v)
+
+-- what the fast way comes to, with the sums that it leaves: what the passes come to, or nothing
+pub data Finds (bs : List Bound) (n : ℕ) (sums : List ℤ) : Found → Type 0 where
+  finds-times : (k : ℕ) → settled (flatMap ways bs) n ≡ some (record { passes = k; sums = sums-in sums }) → Finds bs n sums (Found.Settled k)
+  finds-nothing : Finds bs n sums Found.Nothing
 
 -- a chain of bounds found, of this length and cost, and written to the front of two slices: which is picked is free
 pub record ChainFound (own : ℕ) (bs : List Bound) (long : ℕ) (costs : ℤ) (numbers directions numbers′ directions′ : List ℕ) : Type 0 where

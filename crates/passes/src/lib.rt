@@ -16,7 +16,8 @@ ghost use Rattle.words.specs.Words.{words, written};
 ghost use Rattle.walks.specs.Passes.{at-start};
 ghost use Rattle.schedule.specs.Timetable.{time};
 ghost use Rattle.passes.specs.Solving.{network-fits, Solves, Solving};
-ghost use Rattle.passes.specs.Marks.{sum-at, sums-in};
+ghost use Rattle.passes.specs.Marks.{sum-at, sums-in, Coded, Finds};
+ghost use Rattle.passes.specs.Values.{InRange};
 
 // What is found: times after so many passes, or a closed chain of bounds of this length and cost.
 pub enum Solved {
@@ -29,6 +30,12 @@ pub enum Solved {
 enum Run {
     Settled(usize),
     Raised(usize),
+}
+
+// What the fast way comes to: times after so many passes, or nothing that is believed.
+enum Found {
+    Settled(usize),
+    Nothing,
 }
 
 // A chain found: its length and its cost.
@@ -137,6 +144,136 @@ fn times_or_chain(
     }
 }
 
+// The same, whatever `old` has: the sums as they are at first come from `new`.
+fn from_first(
+    ends: &[u16],
+    ranges: &[u64],
+    own: usize,
+    bounds: usize,
+    old: &mut [i64],
+    new: &mut [i64],
+    parents: &mut [u16],
+    times: &mut [u8],
+    numbers: &mut [u8],
+    directions: &mut [u8],
+) -> Solved
+    requires { ⌜ (network-fits bounds (length (now new)) (now ends) (now ranges) ≡ true) × (length (now old) ≡ length (now new)) ⌝ }
+    requires { ⌜ (sums-in (now new) ≡ at-start (length (now new))) × (now parents ≡ replicate (length (now new)) 0) ⌝ }
+    requires { ⌜ (32768 ≤ length (now times)) × (8192 ≤ length (now numbers)) × (4096 ≤ length (now directions)) ⌝ }
+    ensures { λ r. ⌜ Solves own (length (now (new .entry))) (bounds-in bounds (now (ends .entry)) (now (ranges .entry)))
+        (record { times = now (times .entry); chain-bounds = now (numbers .entry); chain-directions = now (directions .entry) })
+        r
+        (record { times = now (times .exit); chain-bounds = now (numbers .exit); chain-directions = now (directions .exit) }) ⌝ }
+{
+    passing::settle(old, new);
+    times_or_chain(
+        ends,
+        ranges,
+        own,
+        bounds,
+        old,
+        new,
+        parents,
+        times,
+        numbers,
+        directions,
+    )
+}
+
+// The same, with working memory of its own for all but the sums.
+fn by_passes(
+    ends: &[u16],
+    ranges: &[u64],
+    own: usize,
+    bounds: usize,
+    sums: &mut [i64],
+    times: &mut [u8],
+    numbers: &mut [u8],
+    directions: &mut [u8],
+) -> Solved
+    requires { ⌜ network-fits bounds (length (now sums)) (now ends) (now ranges) ≡ true ⌝ }
+    requires { ⌜ (32768 ≤ length (now times)) × (8192 ≤ length (now numbers)) × (4096 ≤ length (now directions)) ⌝ }
+    ensures { λ r. ⌜ Solves own (length (now (sums .entry))) (bounds-in bounds (now (ends .entry)) (now (ranges .entry)))
+        (record { times = now (times .entry); chain-bounds = now (numbers .entry); chain-directions = now (directions .entry) })
+        r
+        (record { times = now (times .exit); chain-bounds = now (numbers .exit); chain-directions = now (directions .exit) }) ⌝ }
+{
+    let mut first = [-4_611_686_018_427_387_904i64; 4096];
+    let mut parents = [0u16; 4096];
+    first[0] = 0;
+    let n = sums.len();
+    from_first(
+        ends,
+        ranges,
+        own,
+        bounds,
+        sums,
+        &mut first[..n],
+        &mut parents[..n],
+        times,
+        numbers,
+        directions,
+    )
+}
+
+// The fast way: values found by sweeps, and believed where they are a certificate.
+fn quick(
+    ends: &[u16],
+    ranges: &[u64],
+    bounds: usize,
+    values: &mut [i64],
+    parents: &mut [u16],
+) -> Found
+    requires { ⌜ network-fits bounds (length (now values)) (now ends) (now ranges) ≡ true ⌝ }
+    requires { ⌜ (length (now parents) ≡ length (now values)) × InRange (now values) × Coded (bounds-in bounds (now ends) (now ranges)) (now parents) ⌝ }
+    ensures { λ r. ⌜ Finds (bounds-in bounds (now (ends .entry)) (now (ranges .entry))) (length (now (values .entry))) (now (values .exit)) r ⌝ }
+{
+    sweeping::sweeps(ends, ranges, bounds, values, parents);
+    if certificate::is_certificate(ends, ranges, bounds, values) {
+        return Found::Settled(certificate::round(values));
+    }
+    Found::Nothing
+}
+
+// The fast way, and where nothing comes of it the passes.
+fn search(
+    ends: &[u16],
+    ranges: &[u64],
+    own: usize,
+    bounds: usize,
+    values: &mut [i64],
+    parents: &mut [u16],
+    times: &mut [u8],
+    numbers: &mut [u8],
+    directions: &mut [u8],
+) -> Solved
+    requires { ⌜ network-fits bounds (length (now values)) (now ends) (now ranges) ≡ true ⌝ }
+    requires { ⌜ (length (now parents) ≡ length (now values)) × InRange (now values) × Coded (bounds-in bounds (now ends) (now ranges)) (now parents) ⌝ }
+    requires { ⌜ (32768 ≤ length (now times)) × (8192 ≤ length (now numbers)) × (4096 ≤ length (now directions)) ⌝ }
+    ensures { λ r. ⌜ Solves own (length (now (values .entry))) (bounds-in bounds (now (ends .entry)) (now (ranges .entry)))
+        (record { times = now (times .entry); chain-bounds = now (numbers .entry); chain-directions = now (directions .entry) })
+        r
+        (record { times = now (times .exit); chain-bounds = now (numbers .exit); chain-directions = now (directions .exit) }) ⌝ }
+{
+    let x = quick(ends, ranges, bounds, values, parents);
+    match x {
+        Found::Settled(k) => {
+            write_times(values, times);
+            Solved::Times { passes: k }
+        }
+        Found::Nothing => by_passes(
+            ends,
+            ranges,
+            own,
+            bounds,
+            values,
+            times,
+            numbers,
+            directions,
+        ),
+    }
+}
+
 // The same, with working memory of its own.
 fn find(
     ends: &[u16],
@@ -155,18 +292,15 @@ fn find(
         r
         (record { times = now (times .exit); chain-bounds = now (numbers .exit); chain-directions = now (directions .exit) }) ⌝ }
 {
-    let mut old = [-4_611_686_018_427_387_904i64; 4096];
-    let mut new = [-4_611_686_018_427_387_904i64; 4096];
+    let mut values = [-1_152_921_504_606_846_976i64; 4096];
     let mut parents = [0u16; 4096];
-    old[0] = 0;
-    new[0] = 0;
-    times_or_chain(
+    values[0] = 0;
+    search(
         ends,
         ranges,
         own,
         bounds,
-        &mut old[..events],
-        &mut new[..events],
+        &mut values[..events],
         &mut parents[..events],
         times,
         numbers,

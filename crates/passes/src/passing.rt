@@ -104,7 +104,7 @@ fn pass(
 }
 
 // Copies `new` to `old`; returns a place where that changed something, or the length where it changed nothing.
-fn settle(old: &mut [i64], new: &[i64]) -> usize
+pub(crate) fn settle(old: &mut [i64], new: &[i64]) -> usize
     requires { ⌜ length (now old) ≡ length (now new) ⌝ }
     ensures copied { λ _. ⌜ now (old .exit) ≡ now (new .entry) ⌝ }
     ensures quiet { λ r. ⌜ (r ≡ length (now (new .entry)) → now (old .entry) ≡ now (new .entry)) ⌝ }
