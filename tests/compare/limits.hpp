@@ -58,9 +58,8 @@ inline Plan with_bounds(size_t count) {
     return plan;
 }
 
-/* a cart that must go on at its one speed, and one in its way at the end, which leaves late, slowly and by a long margin: the only chain runs along the whole
-   route */
-inline Plan with_long_chain(size_t moves) {
+/* a cart, and one in its way at the end, which leaves late, slowly and by a long margin */
+inline Plan with_late_end(size_t moves, const Cart &first_cart, const Cart &second_cart) {
     Plan plan;
     Path first, second;
     for (uint64_t cell = 0; cell <= moves; cell++) {
@@ -68,7 +67,7 @@ inline Plan with_long_chain(size_t moves) {
         second.push_back(cell < moves ? moves : moves + 1);
         plan.roads.push_back(cell < moves ? metre(cell, cell + 1) : Road{cell, cell + 1, most_length, (most_length - 1) / 2});
     }
-    plan.carts = {{quarter_metre, quarter_metre}, {least_speed, std::nullopt}};
+    plan.carts = {first_cart, second_cart};
     plan.paths = {first, second};
     return plan;
 }
@@ -110,7 +109,11 @@ inline void add_counts(std::vector<Known> &known) {
     add("4,095 events of 64 carts", apart(moves, 128), {}, Outcome{true, 4095, 4157, 64, {{4094, 84000}}});
     add("8,192 bounds", with_bounds(8192), {}, Outcome{true, 0, 8192, 0, {}});
     add("8,193 bounds", with_bounds(8193), {4, paths_table, 0});
-    add("a chain of over 3,000 items", with_long_chain(1020), {}, Outcome{false});
+    /* the cart must go on at its one speed: the only chain runs along the whole route */
+    add("a chain of over 3,000 items", with_late_end(1020, {quarter_metre, quarter_metre}, {least_speed, std::nullopt}), {}, Outcome{false});
+    /* it may go at half its speed, and is late on half its way: each of its events there is late for the sake of the next */
+    add("late on half the way", with_late_end(100, {quarter_metre, quarter_metre / 2}, {83334, std::nullopt}), {},
+        Outcome{true, 307, 308, 153, {{300, 599996}, {301, 600996}, {306, 1199993}}});
 }
 
 inline void add_sizes(std::vector<Known> &known) {
