@@ -2,6 +2,7 @@ pub mod RowBounds
 pub mod Counts
 pub mod CountSteps
 pub mod Links
+pub mod Few
 pub mod LimitSteps
 pub mod Kept
 pub mod Firsts

@@ -260,3 +260,21 @@ pub(crate) fn all_orders(cells: &[u32], carts: usize, steps: usize) -> usize
     link(&places, n, &mut heads, &mut nexts);
     orders_among(&numbers, &times, &places, &heads, &nexts, n)
 }
+
+// Whether there are no more order bounds than `most`, by the number of moves: each gives at most one to each other cart, so that few need not be counted.
+pub(crate) fn few_orders(
+    cells: &[u32],
+    carts: usize,
+    steps: usize,
+    moved: usize,
+    most: usize,
+) -> bool
+    requires { ⌜ (carts ≤ 64) × (1 ≤ steps) × (steps ≤ 1024) × (carts * steps ≤ length (now cells)) ⌝ }
+    requires { ⌜ (moved ≡ total moves (paths-in carts steps (now cells))) × (carts + moved ≤ 1408) × (most ≤ 8192) ⌝ }
+    ensures { λ r. ⌜ r ≡ leb (orders-among (stops 1 (paths-in carts steps (now (cells .entry))))) most ⌝ }
+{
+    if carts * moved <= most + moved {
+        return true;
+    }
+    all_orders(cells, carts, steps) <= most
+}
