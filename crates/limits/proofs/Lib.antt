@@ -3,6 +3,7 @@ pub mod Counts
 pub mod CountSteps
 pub mod Links
 pub mod Few
+pub mod Chains
 pub mod LimitSteps
 pub mod Kept
 pub mod Firsts

@@ -44,7 +44,7 @@ left-there cells b n (suc l) i e h = by (eqb (getD cells i 0 % 1024) b) refl h (
     by false q h rest = rest h
 
 -- a visit to another cell is not counted
-other-cell : (v u : Stop) (k : ℕ) → v .cell ≢ u .cell → counts v k u ≡ false
+pub other-cell : (v u : Stop) (k : ℕ) → v .cell ≢ u .cell → counts v k u ≡ false
 unfolding counts
 other-cell v u k h =
     ap (λ (b : Bool). not (eqb (v .cart) (u .cart)) && not (eqb k (u .cart)) && (ltb (v .step) (u .step) && b)) (ne-eqb (v .cell) (u .cell) h)
@@ -204,8 +204,3 @@ module _ (numbers times cells heads nexts : List ℕ) (n : ℕ) (k : Linked cell
       walk-passes m q =
           let (_, _, skip) = walk-next (n - left) (omega arith) same next e in
           at-hand m ∙ later-no numbers times cells v m n (n - left) (omega arith) q ∙ skip m
-
-      -- as a number
-      pub walk-counted : (m : ℕ) → counts (v .visit) m (stop-at numbers times cells (n - left)) ≡ true
-          → length (later-bounds v m (row-in numbers times cells left (n - left))) ≡ suc (length (later-bounds v (getD numbers (n - left) 0) (row-in numbers times cells next (n - next))))
-      walk-counted m q = ap (λ (bs : List Bound). length bs) (walk-counts m q)
