@@ -152,20 +152,12 @@ pub(crate) fn put_all(
     n
 }
 
-// Whether a visit of cart i at step s to cell x is later than one of cart j at step t, to the same cell c, and by a cart that is neither j nor k.
+// Whether a visit of cart i at step s to cell x is later than one of cart j at step t, to the same cell c, and by a cart that is neither j nor k. All is
+// tested at once: what comes of one test can't be foretold.
 pub(crate) fn is_counted(j: u8, t: u16, c: u32, k: u8, i: u8, s: u16, x: u32) -> bool
     ensures { λ r. ⌜ r ≡ counts (record { cart = j; step = t; cell = c }) k (record { cart = i; step = s; cell = x }) ⌝ }
 {
-    if j == i {
-        return false;
-    }
-    if k == i {
-        return false;
-    }
-    if s <= t {
-        return false;
-    }
-    c == x
+    (j != i) & (k != i) & ((t < s) & (c == x))
 }
 
 // Links n visits: to each the next whose cell has the same remainder.
