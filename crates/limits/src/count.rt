@@ -152,8 +152,8 @@ pub(crate) fn put_all(
     n
 }
 
-// Whether a visit of cart i at step s to cell x is later than one of cart j at step t, to the same cell c, and by a cart that is neither j nor k. All is
-// tested at once: what comes of one test can't be foretold.
+// Whether a visit of cart i at step s to cell x is later than one of cart j at step t, to the same cell c, and by a cart that is neither j nor k. All
+// is tested at once, since a branch for each test would often be foretold wrong.
 pub(crate) fn is_counted(j: u8, t: u16, c: u32, k: u8, i: u8, s: u16, x: u32) -> bool
     ensures { λ r. ⌜ r ≡ counts (record { cart = j; step = t; cell = c }) k (record { cart = i; step = s; cell = x }) ⌝ }
 {
@@ -276,7 +276,6 @@ fn orders_among(
     requires { ⌜ (length (now numbers) ≡ 1408) × (length (now times) ≡ 1408) × (length (now places) ≡ 1408) ⌝ }
     requires { ⌜ (length (now heads) ≡ 1024) × (length (now nexts) ≡ 1408) × Chained (now numbers) (now times) (now places) (now heads) (now nexts) n n ⌝ }
     ensures { λ r. ⌜ r ≡ orders-among (stops-in (now (numbers .entry)) (now (times .entry)) (now (places .entry)) n 0) ⌝ }
-    ensures { λ r. ⌜ r ≤ 2000000 ⌝ }
 {
     let mut sum: usize = 0;
     let mut v: usize = 0;
@@ -294,7 +293,6 @@ pub(crate) fn all_orders(cells: &[u32], carts: usize, steps: usize) -> usize
     requires { ⌜ (carts ≤ 64) × (1 ≤ steps) × (steps ≤ 1024) × (carts * steps ≤ length (now cells)) ⌝ }
     requires { ⌜ carts + total moves (paths-in carts steps (now cells)) ≤ 1408 ⌝ }
     ensures { λ r. ⌜ r ≡ orders-among (stops 1 (paths-in carts steps (now (cells .entry)))) ⌝ }
-    ensures { λ r. ⌜ r ≤ 2000000 ⌝ }
 {
     let mut numbers: [u8; 1408] = [0; 1408];
     let mut times: [u16; 1408] = [0; 1408];

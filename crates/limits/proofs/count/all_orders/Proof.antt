@@ -60,7 +60,7 @@ returns : tie.Need-returns
 returns c =
     let l = c .before .before .before .before .before .before .before .before in
     let p = l .before .before .before .before .before .before .before .before .before in
-    (c .orders-among .ensures .0 ∙ ap orders-among (p .put-all .ensures .1), c .orders-among .ensures .1)
+    c .orders-among .ensures ∙ ap orders-among (p .put-all .ensures .1)
 
 pub all-orders-spec : {M : Type 1} → statement M
 all-orders-spec =

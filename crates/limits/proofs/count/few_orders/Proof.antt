@@ -29,7 +29,7 @@ all-orders-requires : tie.Need-all-orders-requires
 all-orders-requires c κs = search needs
 
 returns-2 : tie.Need-returns-2
-returns-2 c = ap (λ (m : ℕ). leb m (c .before .before .before .args .most)) (c .all-orders .ensures .0)
+returns-2 c = ap (λ (m : ℕ). leb m (c .before .before .before .args .most)) (c .all-orders .ensures)
 
 pub few-orders-spec : {M : Type 1} → statement M
 few-orders-spec = tie.close (tie.spec mul-if1 add-if1 returns all-orders-requires returns-2)
