@@ -19,7 +19,7 @@ use Rattle.limits.proofs.Counts.{visits-after-moves}
 -- ---- from one visit
 
 -- a visit of v's own cart is not counted
-own-cart : (v u : Stop) (k : ℕ) → v .cart ≡ u .cart → counts v k u ≡ false
+pub own-cart : (v u : Stop) (k : ℕ) → v .cart ≡ u .cart → counts v k u ≡ false
 unfolding counts
 own-cart v u k h =
     ap (λ (b : Bool). not b && not (eqb k (u .cart)) && (ltb (v .step) (u .step) && eqb (v .cell) (u .cell))) (eq-eqb (v .cart) (u .cart) h)

@@ -4,6 +4,7 @@ pub mod CountSteps
 pub mod Links
 pub mod Few
 pub mod Chains
+pub mod Skips
 pub mod LimitSteps
 pub mod Kept
 pub mod Firsts
