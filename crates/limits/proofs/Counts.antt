@@ -20,7 +20,7 @@ use Rattle.limits.proofs.RowBounds.{of-paths-carts, order-count-is}
 -- ---- events
 
 -- one visit for each move, and the first
-visits-after-moves : (ds : List ℕ) (c t : ℕ) → length (visits-after c t ds) ≡ moves-after c ds
+pub visits-after-moves : (ds : List ℕ) (c t : ℕ) → length (visits-after c t ds) ≡ moves-after c ds
 unfolding visits-after moves-after
 visits-after-moves [] c t = refl
 visits-after-moves (d ∷ ds) c t = by (eqb c d) (visits-after-moves ds d (suc t))

@@ -2,6 +2,9 @@ pub mod RowBounds
 pub mod Counts
 pub mod CountSteps
 pub mod Links
+pub mod Few
+pub mod Chains
+pub mod Skips
 pub mod LimitSteps
 pub mod Kept
 pub mod Firsts

@@ -1,6 +1,6 @@
 -- Visits linked by their cells' remainders: a visit to v's cell is among those of its remainder, so that no other need be looked at.
 -- Assumes nothing.
-use Prim.Native.Nat.{ℕ, zero, suc, _+_, _*_, _-_, _%_, _≤_, _<_}
+use Prim.Native.Nat.{ℕ, zero, suc, _+_, _-_, _%_, _≤_, _<_}
 use native.Mathlib.Nat.{eq-or-lt-of-le}
 use native.Mathlib.Numerals.{add-one}
 use native.Mathlib.Omega.{arith}
@@ -12,10 +12,9 @@ use lib.Dec.{ltb, eqb}
 use lib.ListN.{length, getD, set}
 use lib.Seq.{getD-set-same, getD-set-other}
 use borrow.Author.Tests.{eqb-true, eqb-false, ne-eqb}
-use Rattle.network.specs.Bounds.{Bound, no-earlier}
+use Rattle.network.specs.Bounds.{no-earlier}
 use Rattle.limits.specs.Counts.{Stop, counts, stop-at, stops-in, left-in, Linked}
 use Rattle.limits.specs.Row.{Entry, later-bounds, entry-at, placed, entry-in, row-in}
-use Rattle.limits.proofs.CountSteps.{later-yes, later-no}
 
 -- ---- where the next of a remainder is
 
@@ -44,7 +43,7 @@ left-there cells b n (suc l) i e h = by (eqb (getD cells i 0 % 1024) b) refl h (
     by false q h rest = rest h
 
 -- a visit to another cell is not counted
-other-cell : (v u : Stop) (k : ℕ) → v .cell ≢ u .cell → counts v k u ≡ false
+pub other-cell : (v u : Stop) (k : ℕ) → v .cell ≢ u .cell → counts v k u ≡ false
 unfolding counts
 other-cell v u k h =
     ap (λ (b : Bool). not (eqb (v .cart) (u .cart)) && not (eqb k (u .cart)) && (ltb (v .step) (u .step) && b)) (ne-eqb (v .cell) (u .cell) h)
@@ -142,16 +141,6 @@ module _ (numbers times cells heads nexts : List ℕ) (n : ℕ) (k : Linked cell
   head-is : (b : ℕ) → b < 1024 → getD heads b 0 ≡ left-in cells b n 0
   head-is b h = let none : n - n ≡ 0 = omega arith in k .heads-are b h ∙ ap (λ (m : ℕ). left-in cells b n m) none
 
-  -- the next after visit i
-  next-is : (i : ℕ) → i < n → getD nexts i 0 ≡ left-in cells (getD cells i 0 % 1024) (n - (i + 1)) (i + 1)
-  next-is i h =
-      let here : i ≡ n - suc (n - (i + 1)) = omega arith in
-      let after : n - (n - (i + 1)) ≡ i + 1 = omega arith in
-      ap (λ (m : ℕ). getD nexts m 0) here
-      ∙ k .nexts-are (n - (i + 1)) (omega arith)
-      ∙ ap (λ (m : ℕ). left-in cells (getD cells m 0 % 1024) (n - (i + 1)) (n - (n - (i + 1)))) (sym here)
-      ∙ ap (λ (m : ℕ). left-in cells (getD cells i 0 % 1024) (n - (i + 1)) m) after
-
   module _ (v : Entry) where
     -- at its first visit all carts are yet to be counted
     pub walk-begins : (left : ℕ) → left ≡ getD heads (v .visit .cell % 1024) 0
@@ -164,48 +153,3 @@ module _ (numbers times cells heads nexts : List ℕ) (n : ℕ) (k : Linked cell
         (λ (x : ℕ). (x ≤ n) × (0 < x → getD cells (n - x) 0 % 1024 ≡ b) × (later-bounds v 0 (row-in numbers times cells x (n - x)) ≡ later-bounds v 0 (row-in numbers times cells n 0)))
         (sym first)
         (left-most cells b n 0, left-there cells b n n 0 (omega arith), sym (left-skip numbers times cells v 0 b n n 0 refl (omega arith)))
-
-    -- after visit i the next is of the same remainder, and those between are passed over
-    walk-next : (i : ℕ) → i < n → getD cells i 0 % 1024 ≡ v .visit .cell % 1024 → (left : ℕ) → left ≡ getD nexts i 0
-        → (left ≤ n - (i + 1)) × (0 < left → getD cells (n - left) 0 % 1024 ≡ v .visit .cell % 1024)
-        × ((m : ℕ) → later-bounds v m (row-in numbers times cells (n - (i + 1)) (i + 1)) ≡ later-bounds v m (row-in numbers times cells left (n - left)))
-    walk-next i h same left e =
-        let b : ℕ = v .visit .cell % 1024 in
-        let next : left ≡ left-in cells b (n - (i + 1)) (i + 1) = e ∙ next-is i h ∙ ap (λ (x : ℕ). left-in cells x (n - (i + 1)) (i + 1)) same in
-        subst
-        (λ (x : ℕ). (x ≤ n - (i + 1)) × (0 < x → getD cells (n - x) 0 % 1024 ≡ b)
-        × ((m : ℕ) → later-bounds v m (row-in numbers times cells (n - (i + 1)) (i + 1)) ≡ later-bounds v m (row-in numbers times cells x (n - x))))
-        (sym next) (
-          left-most cells b (n - (i + 1)) (i + 1),
-          left-there cells b n (n - (i + 1)) (i + 1) (omega arith),
-          λ m. left-skip numbers times cells v m b n (n - (i + 1)) (i + 1) refl (omega arith),
-        )
-
-    module _ (left : ℕ) (some : 0 < left) (within : left ≤ n) (same : getD cells (n - left) 0 % 1024 ≡ v .visit .cell % 1024) (next : ℕ) (e : next ≡ getD nexts (n - left) 0) where
-      -- the visit at hand is the first of those left
-      at-hand : (m : ℕ) → later-bounds v m (row-in numbers times cells left (n - left)) ≡ later-bounds v m (row-in numbers times cells (n - (n - left)) (n - left))
-      at-hand m = let all : left ≡ n - (n - left) = omega arith in ap (λ (x : ℕ). later-bounds v m (row-in numbers times cells x (n - left))) all
-
-      -- fewer are left from the next on, and it is of the same remainder
-      pub walk-goes : (next < left) × (0 < next → getD cells (n - next) 0 % 1024 ≡ v .visit .cell % 1024)
-      walk-goes = let (l, r, _) = walk-next (n - left) (omega arith) same next e in (omega (arith, l), r)
-
-      -- the visit at hand is counted
-      pub walk-counts : (m : ℕ) → counts (v .visit) m (stop-at numbers times cells (n - left)) ≡ true
-          → later-bounds v m (row-in numbers times cells left (n - left))
-          ≡ no-earlier (v .event + 1) (3 * (n - left) + 3 - 2 * getD numbers (n - left) 0 - 1) ∷ later-bounds v (getD numbers (n - left) 0) (row-in numbers times cells next (n - next))
-      walk-counts m q =
-          let (_, _, skip) = walk-next (n - left) (omega arith) same next e in
-          at-hand m ∙ later-yes numbers times cells v m n (n - left) (omega arith) q ∙ ap (λ (bs : List Bound). no-earlier (v .event + 1) (3 * (n - left) + 3 - 2 * getD numbers (n - left) 0 - 1) ∷ bs) (skip (getD numbers (n - left) 0))
-
-      -- or not
-      pub walk-passes : (m : ℕ) → counts (v .visit) m (stop-at numbers times cells (n - left)) ≡ false
-          → later-bounds v m (row-in numbers times cells left (n - left)) ≡ later-bounds v m (row-in numbers times cells next (n - next))
-      walk-passes m q =
-          let (_, _, skip) = walk-next (n - left) (omega arith) same next e in
-          at-hand m ∙ later-no numbers times cells v m n (n - left) (omega arith) q ∙ skip m
-
-      -- as a number
-      pub walk-counted : (m : ℕ) → counts (v .visit) m (stop-at numbers times cells (n - left)) ≡ true
-          → length (later-bounds v m (row-in numbers times cells left (n - left))) ≡ suc (length (later-bounds v (getD numbers (n - left) 0) (row-in numbers times cells next (n - next))))
-      walk-counted m q = ap (λ (bs : List Bound). length bs) (walk-counts m q)

@@ -1,9 +1,9 @@
 -- Order bounds written to two arrays, some after the other. Assumes nothing.
-use Prim.Native.Nat.{ℕ, _+_, _*_, _≤_, _<_}
+use Prim.Native.Nat.{ℕ, _+_, _*_, _/_, _≤_, min}
 use native.Mathlib.Omega.{arith}
 use mathlib.Core.Path.{_≡_, refl, ap, sym, _∙_, subst}
 use mathlib.Core.List.{List, [], _∷_, _++_, flatMap}
-use mathlib.Core.Bool.{Bool, true, false, not, _&&_, cond}
+use mathlib.Core.Bool.{Bool, true, false, not, _&&_, cond, and-assoc}
 use lib.Dec.{T, leb, leb→le}
 use mir.Facts.{and-yes}
 use lib.ListN.{length, length-append}
@@ -18,9 +18,9 @@ use Rattle.network.specs.BoundArrays.{bound-ends, bound-range}
 use Rattle.network.proofs.BoundStores.{by-ends, by-range, pairs-length, more-stored, front-stored}
 use Rattle.limits.specs.Limits.{of-paths, limits-kept, paths-within}
 use Rattle.limits.specs.Orders.{orders-fitting}
-use Rattle.limits.specs.Counts.{total, moves, stops, orders-among}
+use Rattle.limits.specs.Counts.{total, moves}
 use Rattle.limits.proofs.RowBounds.{of-paths-carts, order-count-is}
-use Rattle.limits.proofs.LimitSteps.{there-says}
+use Rattle.limits.proofs.LimitSteps.{there-says, path-orders, room-test}
 use Rattle.limits.proofs.Firsts.{events-counted}
 
 -- ---- some written, others to come
@@ -112,13 +112,13 @@ all-written row os ends ranges ends' ranges' m e he hr em ee er = (
 -- ---- the tests
 
 -- paths that keep the limits are few enough for the code that counts and writes
-pub within-says : (n w : ℕ) (s : List ℕ) (b : Bool) → b ≡ paths-within n w s → not b ≡ false → 1 ≤ w
+within-says : (n w : ℕ) (s : List ℕ) → T (paths-within n w s) → 1 ≤ w
     → ((n ≤ 64) × (1 ≤ w) × (w ≤ 1024) × (n * w ≤ length s)) × (n + total moves (paths-in n w s) ≤ 1408)
 unfolding paths-within limits-kept
-within-says n w s b q e o =
+within-says n w s t o =
     let ps : List (List ℕ) = paths-in n w s in
     let there : Bool = leb n 64 && leb w 1024 && leb (n * w) (length s) in
-    let (all, kept) = and-yes there (limits-kept (of-paths ps)) (subst T (sym (not-false b e) ∙ q) tt) in
+    let (all, kept) = and-yes there (limits-kept (of-paths ps)) t in
     let (few, short, cells) = there-says n w s there refl (ap not (passes there all)) in
     let (events, _) = and-yes (leb (event-count (of-paths ps)) 4096) (leb (length (bounds (of-paths ps))) 8192) kept in
     let count : event-count (of-paths ps) ≤ 4096 = leb→le (event-count (of-paths ps)) 4096 events in
@@ -148,35 +148,43 @@ module _ (n w : ℕ) (s ends ranges : List ℕ) where
   pub orders-steps : w ≡ 0 → Left 0 ends ranges
   orders-steps e = none-fit (simp (lt-leb 1 w (omega arith)))
 
-  -- limits not kept
-  pub orders-over : 1 ≤ w → (b : Bool) → b ≡ paths-within n w s → not b ≡ true → Left 0 ends ranges
-  orders-over o b q e = none-fit (simp (le-leb 1 w o, sym q ∙ not-true b e))
-
-  module _ (o : 1 ≤ w) (b : Bool) (p : b ≡ paths-within n w s) (e : not b ≡ false) (m : ℕ) (q : m ≡ orders-among (stops 1 (paths-in n w s))) where
+  module _ (o : 1 ≤ w) (room : ℕ) (small : room ≡ min (length ends) (length ranges)) (b : Bool) (p : b ≡ (paths-within n w s && leb (path-orders n w s) (room / 2))) where
     -- as many as are counted
-    pub orders-many : m ≡ length os
+    orders-many : path-orders n w s ≡ length os
     unfolding of-paths
-    orders-many = q ∙ sym (order-count-is (of-paths (paths-in n w s)) (of-paths-carts (paths-in n w s)))
+    orders-many = sym (order-count-is (of-paths (paths-in n w s)) (of-paths-carts (paths-in n w s)))
 
-    -- the limits are kept
-    kept : paths-within n w s ≡ true
-    kept = sym p ∙ not-false b e
+    -- the limits are kept, and there is room
+    orders-tested : b ≡ (leb 1 w && paths-within n w s && leb (2 * length os) (length ends) && leb (2 * length os) (length ranges))
+    orders-tested =
+        p
+        ∙ ap (λ (r : ℕ). paths-within n w s && leb (path-orders n w s) (r / 2)) small
+        ∙ ap (λ (t : Bool). paths-within n w s && t) (room-test (path-orders n w s) (length ends) (length ranges))
+        ∙ ap (λ (m : ℕ). paths-within n w s && (leb (2 * m) (length ends) && leb (2 * m) (length ranges))) orders-many
+        ∙ sym (and-assoc (paths-within n w s) (leb (2 * length os) (length ends)) (leb (2 * length os) (length ranges)))
+        ∙ ap (λ (t : Bool). t && paths-within n w s && leb (2 * length os) (length ends) && leb (2 * length os) (length ranges)) (sym (le-leb 1 w o))
 
-    -- no room for their ends
-    pub orders-ends : length ends < 2 * m → Left 0 ends ranges
-    orders-ends h = none-fit (simp (le-leb 1 w o, kept, lt-leb (2 * length os) (length ends) (omega (arith, orders-many))))
+    -- they are not, or there is none
+    pub orders-over : not b ≡ true → Left 0 ends ranges
+    orders-over e = none-fit (sym orders-tested ∙ not-true b e)
 
-    -- none for their ranges
-    pub orders-ranges : 2 * m ≤ length ends → length ranges < 2 * m → Left 0 ends ranges
-    orders-ranges g h = none-fit (simp (le-leb 1 w o, kept, le-leb (2 * length os) (length ends) (omega (arith, orders-many)), lt-leb (2 * length os) (length ranges) (omega (arith, orders-many))))
+    -- else there are few enough for the code that writes them
+    pub orders-room : not b ≡ false
+        → ((n ≤ 64) × (1 ≤ w) × (w ≤ 1024) × (n * w ≤ length s)) × ((n + total moves (paths-in n w s) ≤ 1408) × ((2 * length os ≤ length ends) × (2 * length os ≤ length ranges)))
+    orders-room e =
+        let within : Bool = leb 1 w && paths-within n w s in
+        let (more, ranged) = and-yes (within && leb (2 * length os) (length ends)) (leb (2 * length os) (length ranges)) (subst T (sym (not-false b e) ∙ orders-tested) tt) in
+        let (all, ended) = and-yes within (leb (2 * length os) (length ends)) more in
+        let (_, kept) = and-yes (leb 1 w) (paths-within n w s) all in
+        let (few, moved) = within-says n w s kept o in
+        (few, (moved, (leb→le (2 * length os) (length ends) ended, leb→le (2 * length os) (length ranges) ranged)))
 
-    -- else they are written
-    pub orders-fit : 2 * m ≤ length ends → 2 * m ≤ length ranges → (k : ℕ) (ends' ranges' : List ℕ)
+    -- and they are written
+    pub orders-fit : not b ≡ false → (k : ℕ) (ends' ranges' : List ℕ)
         → k ≡ length os → ends' ≡ written (flatMap bound-ends os) ends → ranges' ≡ written (flatMap bound-range os) ranges → Left k ends' ranges'
     unfolding orders-fitting
-    orders-fit g h k ends' ranges' ek ee er =
-        let fit : true ≡ (leb 1 w && paths-within n w s && leb (2 * length os) (length ends) && leb (2 * length os) (length ranges)) =
-        simp (le-leb 1 w o, kept, le-leb (2 * length os) (length ends) (omega (arith, orders-many)), le-leb (2 * length os) (length ranges) (omega (arith, orders-many))) in (
+    orders-fit e k ends' ranges' ek ee er =
+        let fit : true ≡ (leb 1 w && paths-within n w s && leb (2 * length os) (length ends) && leb (2 * length os) (length ranges)) = sym (not-false b e) ∙ orders-tested in (
           ek ∙ ap (λ (b : Bool). length (cond b os [])) fit,
           (ee ∙ ap (λ (b : Bool). written (flatMap bound-ends (cond b os [])) ends) fit, er ∙ ap (λ (b : Bool). written (flatMap bound-range (cond b os [])) ranges) fit),
         )

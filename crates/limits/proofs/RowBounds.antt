@@ -64,7 +64,7 @@ entered-cart n e (x ∷ (y ∷ ys)) rest h =
     ∙ ap (λ (m : ℕ). record { visit = stop n x; event = e } ∷ (cart-row n (e + 3) (y ∷ ys) ++ entered m rest)) later
 
 -- after the last visit of a cart comes one of a later cart, or none
-goes-no-further : (v : Stop) (n : ℕ) (ps : List (List ℕ)) → v .cart < n → not-last v (stops n ps) ≡ false
+pub goes-no-further : (v : Stop) (n : ℕ) (ps : List (List ℕ)) → v .cart < n → not-last v (stops n ps) ≡ false
 unfolding not-last stops visits-of stop
 goes-no-further v n [] l = refl
 goes-no-further v n ([] ∷ ps) l = goes-no-further v (suc n) ps (omega arith)

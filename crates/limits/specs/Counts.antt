@@ -1,10 +1,10 @@
 -- How many events and bounds paths make, as the code counts them; that these are the counts of the definitions is shown in `proofs.Counts`.
 -- Assumes nothing.
-use Prim.Native.Nat.{ℕ, zero, suc, _+_, _-_, _%_, _<_}
+use Prim.Native.Nat.{ℕ, zero, suc, _+_, _-_, _%_, _≤_, _<_}
 use mathlib.Core.Path.{_≡_}
-use mathlib.Core.Bool.{Bool, false, not, _&&_, cond}
+use mathlib.Core.Bool.{Bool, false, not, _&&_, _||_, cond}
 use mathlib.Core.List.{List, [], _∷_, _++_, map}
-use lib.Dec.{ltb, eqb}
+use lib.Dec.{leb, ltb, eqb}
 use lib.ListN.{getD}
 use Rattle.network.specs.Events.{Visit, visits-of}
 
@@ -84,7 +84,51 @@ pub record Linked (cells heads nexts : List ℕ) (n left : ℕ) : Type 0 where
   pub heads-are : (b : ℕ) → b < 1024 → getD heads b 0 ≡ left-in cells b left (n - left)
   pub nexts-are : (l : ℕ) → l < left → getD nexts (n - suc l) 0 ≡ left-in cells (getD cells (n - suc l) 0 % 1024) l (n - l)
 
+-- ---- visits of a cart passed over together
+
+-- whether the next visit after u, from which on m of n are left, is of u's cart
+unfoldable pub same-cart : List ℕ → ℕ → ℕ → ℕ → Bool
+same-cart carts n u m = ltb 0 m && eqb (getD carts u 0) (getD carts (n - m) 0)
+
+-- how many are left from the next of another cart on: from the next on, or what is known of that one
+unfoldable pub skip-of : List ℕ → List ℕ → List ℕ → ℕ → ℕ → ℕ
+skip-of carts nexts skips n u = cond (same-cart carts n u (getD nexts u 0)) (getD skips (n - getD nexts u 0) 0) (getD nexts u 0)
+
+-- of the last visits of n: to each the next of its remainder that is of another cart
+pub record Skipped (carts nexts skips : List ℕ) (n left : ℕ) : Type 0 where
+  pub skips-are : (l : ℕ) → l < left → getD skips (n - suc l) 0 ≡ skip-of carts nexts skips n (n - suc l)
+
+-- n visits linked, and with these nexts too
+pub record Grouped (carts cells heads nexts skips : List ℕ) (n : ℕ) : Type 0 where
+  pub linked : Linked cells heads nexts n n
+  pub skipped : Skipped carts nexts skips n n
+
+-- the next visit to look at after u, one of cart i: none of its cart where that is j or k, which are not counted
+unfoldable pub next-after : List ℕ → List ℕ → ℕ → ℕ → ℕ → ℕ → ℕ
+next-after nexts skips u i j k = cond (eqb j i || eqb k i) (getD skips u 0) (getD nexts u 0)
+
+-- ---- visits linked for counting
+
+-- whether h counts wherever u does: a visit of the same cart to the same cell, and not earlier
+unfoldable pub stands-for : Stop → Stop → Bool
+stands-for h u = eqb (u .cart) (h .cart) && eqb (u .cell) (h .cell) && leb (u .step) (h .step)
+
+-- whether visit u need not be linked: the next of its remainder, from which on m of n visits are left, stands for it
+unfoldable pub left-out : List ℕ → List ℕ → List ℕ → ℕ → ℕ → ℕ → Bool
+left-out carts steps cells n u m = ltb 0 m && stands-for (stop-at carts steps cells (n - m)) (stop-at carts steps cells u)
+
+-- the last m of n visits do for the last l, where those to a cell of remainder b are counted; the first of them is one
+pub record Does (carts steps cells : List ℕ) (n b l m : ℕ) : Type 0 where
+  pub fewer : m ≤ l
+  pub there : 0 < m → getD cells (n - m) 0 % 1024 ≡ b
+  pub same : (v : Stop) (k : ℕ) → v .cell % 1024 ≡ b → later-carts v k (stops-in carts steps cells l (n - l)) ≡ later-carts v k (stops-in carts steps cells m (n - m))
+
+-- of the last visits of n: for each remainder those that do for all, and to each visit those that do for what comes after it
+pub record Chained (carts steps cells heads nexts : List ℕ) (n left : ℕ) : Type 0 where
+  pub heads-do : (b : ℕ) → b < 1024 → Does carts steps cells n b left (getD heads b 0)
+  pub nexts-do : (l : ℕ) → l < left → Does carts steps cells n (getD cells (n - suc l) 0 % 1024) l (getD nexts (n - suc l) 0)
+
 -- Names every definition of this module, for a proof that computes with them all.
 unfoldable pub open-counts : Unit {0}
-unfolding total moves-after moves stop stops counts later-carts not-last orders-from orders-among stop-at stops-in left-in
+unfolding total moves-after moves stop stops counts later-carts not-last orders-from orders-among stop-at stops-in left-in same-cart skip-of next-after stands-for left-out
 open-counts = tt

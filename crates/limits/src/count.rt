@@ -11,7 +11,7 @@ ghost use Rattle.tables.specs.Arrays.{paths-in};
 ghost use Rattle.network.specs.Events.{visits-of};
 ghost use Rattle.limits.specs.Limits.{of-paths};
 ghost use Rattle.limits.specs.Orders.{first-events};
-ghost use Rattle.limits.specs.Counts.{total, moves, stop, stops, counts, later-carts, orders-among, stop-at, stops-in, Linked};
+ghost use Rattle.limits.specs.Counts.{total, moves, stop, stops, counts, later-carts, orders-among, stop-at, stops-in, left-out, Linked, Chained};
 
 // Whether there are no more carts and steps than may be, and all cells are there.
 pub(crate) fn all_there(cells: &[u32], carts: usize, steps: usize) -> bool
@@ -152,20 +152,12 @@ pub(crate) fn put_all(
     n
 }
 
-// Whether a visit of cart i at step s to cell x is later than one of cart j at step t, to the same cell c, and by a cart that is neither j nor k.
+// Whether a visit of cart i at step s to cell x is later than one of cart j at step t, to the same cell c, and by a cart that is neither j nor k. All
+// is tested at once, since a branch for each test would often be foretold wrong.
 pub(crate) fn is_counted(j: u8, t: u16, c: u32, k: u8, i: u8, s: u16, x: u32) -> bool
     ensures { λ r. ⌜ r ≡ counts (record { cart = j; step = t; cell = c }) k (record { cart = i; step = s; cell = x }) ⌝ }
 {
-    if j == i {
-        return false;
-    }
-    if k == i {
-        return false;
-    }
-    if s <= t {
-        return false;
-    }
-    c == x
+    (j != i) & (k != i) & ((t < s) & (c == x))
 }
 
 // Links n visits: to each the next whose cell has the same remainder.
@@ -184,7 +176,60 @@ pub(crate) fn link(places: &[u32], n: usize, heads: &mut [u16], nexts: &mut [u16
     }
 }
 
-// How many other carts visit the cell of visit v later. The visits of its remainder are gone through.
+// Whether visit u need not be linked for counting: the next of its remainder, from which on `left` of n visits are left, counts wherever it does.
+fn is_left_out(
+    numbers: &[u8],
+    times: &[u16],
+    places: &[u32],
+    n: usize,
+    u: usize,
+    left: usize,
+) -> bool
+    requires { ⌜ (n ≤ 1408) × (u < n) × (left ≤ n) ⌝ }
+    requires { ⌜ (length (now numbers) ≡ 1408) × (length (now times) ≡ 1408) × (length (now places) ≡ 1408) ⌝ }
+    ensures { λ r. ⌜ r ≡ left-out (now (numbers .entry)) (now (times .entry)) (now (places .entry)) n u left ⌝ }
+{
+    if left == 0 {
+        return false;
+    }
+    let h = n - left;
+    if numbers[u] != numbers[h] {
+        return false;
+    }
+    if places[u] != places[h] {
+        return false;
+    }
+    times[u] <= times[h]
+}
+
+// Links n visits for counting: of a cart's visits to a cell that follow each other among those of a remainder only the last.
+fn link_last(
+    numbers: &[u8],
+    times: &[u16],
+    places: &[u32],
+    n: usize,
+    heads: &mut [u16],
+    nexts: &mut [u16],
+)
+    requires { ⌜ (n ≤ 1408) × (length (now numbers) ≡ 1408) × (length (now times) ≡ 1408) × (length (now places) ≡ 1408) ⌝ }
+    requires { ⌜ (length (now heads) ≡ 1024) × (length (now nexts) ≡ 1408) ⌝ }
+    requires { ⌜ ((b : ℕ) → b < 1024 → getD (now heads) b 0 ≡ 0) ⌝ }
+    ensures { λ _. ⌜ Chained (now (numbers .entry)) (now (times .entry)) (now (places .entry)) (now (heads .exit)) (now (nexts .exit)) n n ⌝ }
+{
+    let mut left: usize = 0;
+    while left < n {
+        left += 1;
+        let u = n - left;
+        let b = (places[u] % 1024) as usize;
+        let next = heads[b];
+        nexts[u] = next;
+        if !is_left_out(numbers, times, places, n, u, next as usize) {
+            heads[b] = left as u16;
+        }
+    }
+}
+
+// How many other carts visit the cell of visit v later. The visits linked for its remainder are gone through.
 fn others_later(
     numbers: &[u8],
     times: &[u16],
@@ -196,7 +241,7 @@ fn others_later(
 ) -> usize
     requires { ⌜ (n ≤ 1408) × (v < n) ⌝ }
     requires { ⌜ (length (now numbers) ≡ 1408) × (length (now times) ≡ 1408) × (length (now places) ≡ 1408) ⌝ }
-    requires { ⌜ (length (now heads) ≡ 1024) × (length (now nexts) ≡ 1408) × Linked (now places) (now heads) (now nexts) n n ⌝ }
+    requires { ⌜ (length (now heads) ≡ 1024) × (length (now nexts) ≡ 1408) × Chained (now numbers) (now times) (now places) (now heads) (now nexts) n n ⌝ }
     ensures { λ r. ⌜ r ≡ later-carts (stop-at (now (numbers .entry)) (now (times .entry)) (now (places .entry)) v) 0
         (stops-in (now (numbers .entry)) (now (times .entry)) (now (places .entry)) n 0) ⌝ }
 {
@@ -229,9 +274,8 @@ fn orders_among(
 ) -> usize
     requires { ⌜ n ≤ 1408 ⌝ }
     requires { ⌜ (length (now numbers) ≡ 1408) × (length (now times) ≡ 1408) × (length (now places) ≡ 1408) ⌝ }
-    requires { ⌜ (length (now heads) ≡ 1024) × (length (now nexts) ≡ 1408) × Linked (now places) (now heads) (now nexts) n n ⌝ }
+    requires { ⌜ (length (now heads) ≡ 1024) × (length (now nexts) ≡ 1408) × Chained (now numbers) (now times) (now places) (now heads) (now nexts) n n ⌝ }
     ensures { λ r. ⌜ r ≡ orders-among (stops-in (now (numbers .entry)) (now (times .entry)) (now (places .entry)) n 0) ⌝ }
-    ensures { λ r. ⌜ r ≤ 2000000 ⌝ }
 {
     let mut sum: usize = 0;
     let mut v: usize = 0;
@@ -249,7 +293,6 @@ pub(crate) fn all_orders(cells: &[u32], carts: usize, steps: usize) -> usize
     requires { ⌜ (carts ≤ 64) × (1 ≤ steps) × (steps ≤ 1024) × (carts * steps ≤ length (now cells)) ⌝ }
     requires { ⌜ carts + total moves (paths-in carts steps (now cells)) ≤ 1408 ⌝ }
     ensures { λ r. ⌜ r ≡ orders-among (stops 1 (paths-in carts steps (now (cells .entry)))) ⌝ }
-    ensures { λ r. ⌜ r ≤ 2000000 ⌝ }
 {
     let mut numbers: [u8; 1408] = [0; 1408];
     let mut times: [u16; 1408] = [0; 1408];
@@ -257,6 +300,24 @@ pub(crate) fn all_orders(cells: &[u32], carts: usize, steps: usize) -> usize
     let n = put_all(cells, carts, steps, &mut numbers, &mut times, &mut places);
     let mut heads: [u16; 1024] = [0; 1024];
     let mut nexts: [u16; 1408] = [0; 1408];
-    link(&places, n, &mut heads, &mut nexts);
+    link_last(&numbers, &times, &places, n, &mut heads, &mut nexts);
     orders_among(&numbers, &times, &places, &heads, &nexts, n)
+}
+
+// Whether there are no more order bounds than `most`, by the number of moves: each gives at most one to each other cart, so that few need not be counted.
+pub(crate) fn few_orders(
+    cells: &[u32],
+    carts: usize,
+    steps: usize,
+    moved: usize,
+    most: usize,
+) -> bool
+    requires { ⌜ (carts ≤ 64) × (1 ≤ steps) × (steps ≤ 1024) × (carts * steps ≤ length (now cells)) ⌝ }
+    requires { ⌜ (moved ≡ total moves (paths-in carts steps (now cells))) × (carts + moved ≤ 1408) × (most ≤ 8192) ⌝ }
+    ensures { λ r. ⌜ r ≡ leb (orders-among (stops 1 (paths-in carts steps (now (cells .entry))))) most ⌝ }
+{
+    if carts * moved <= most + moved {
+        return true;
+    }
+    all_orders(cells, carts, steps) <= most
 }

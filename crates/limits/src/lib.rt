@@ -3,16 +3,31 @@ mod count;
 mod orders;
 
 ghost use mathlib.Core.Path.{_≡_};
+ghost use mathlib.Core.Bool.{_&&_};
 ghost use mathlib.Core.List.{flatMap};
+ghost use Prim.Native.Nat.{min};
+ghost use lib.Dec.{leb};
 ghost use lib.ListN.{length};
 ghost use Rattle.words.specs.Words.{written};
+ghost use Rattle.tables.specs.Arrays.{paths-in};
 ghost use Rattle.network.specs.BoundArrays.{bound-ends, bound-range};
 ghost use Rattle.limits.specs.Limits.{paths-within};
+ghost use Rattle.limits.specs.Counts.{stops, orders-among};
 ghost use Rattle.limits.specs.Orders.{events-fit, firsts-fitting, orders-fitting};
 
-// Whether paths keep the limits of events and bounds: `carts` of them, of `steps` cells each, one after the other.
-pub fn within_limits(cells: &[u32], carts: usize, steps: usize) -> bool
-    ensures { λ r. ⌜ r ≡ paths-within carts steps (now (cells .entry)) ⌝ }
+// The smaller of two numbers.
+fn smaller(a: usize, b: usize) -> usize
+    ensures { λ r. ⌜ r ≡ min a b ⌝ }
+{
+    if a <= b {
+        return a;
+    }
+    b
+}
+
+// Whether paths keep the limits of events and bounds and make no more order bounds than `most`.
+fn all_kept(cells: &[u32], carts: usize, steps: usize, most: usize) -> bool
+    ensures { λ r. ⌜ r ≡ (paths-within carts steps (now (cells .entry)) && leb (orders-among (stops 1 (paths-in carts steps (now (cells .entry))))) most) ⌝ }
 {
     if !count::all_there(cells, carts, steps) {
         return false;
@@ -24,8 +39,15 @@ pub fn within_limits(cells: &[u32], carts: usize, steps: usize) -> bool
     if 4096 < 2 + carts + 3 * moves {
         return false;
     }
-    let orders = count::all_orders(cells, carts, steps);
-    2 * carts + 3 * moves + orders <= 8192
+    let left = 8192 - 2 * carts - 3 * moves;
+    count::few_orders(cells, carts, steps, moves, smaller(left, most))
+}
+
+// Whether paths keep the limits of events and bounds: `carts` of them, of `steps` cells each, one after the other.
+pub fn within_limits(cells: &[u32], carts: usize, steps: usize) -> bool
+    ensures { λ r. ⌜ r ≡ paths-within carts steps (now (cells .entry)) ⌝ }
+{
+    all_kept(cells, carts, steps, 8192)
 }
 
 // Writes the numbers of the carts' first events to the front of an array, and the finish's behind them; whether there are such.
@@ -64,14 +86,8 @@ pub fn order_bounds(
     if steps == 0 {
         return 0;
     }
-    if !within_limits(cells, carts, steps) {
-        return 0;
-    }
-    let n = count::all_orders(cells, carts, steps);
-    if ends.len() < 2 * n {
-        return 0;
-    }
-    if ranges.len() < 2 * n {
+    let room = smaller(ends.len(), ranges.len());
+    if !all_kept(cells, carts, steps, room / 2) {
         return 0;
     }
     orders::write_orders(cells, carts, steps, ends, ranges)

@@ -2,7 +2,7 @@
 use crate::count;
 ghost use mathlib.Core.Path.{_≡_};
 ghost use mathlib.Core.List.{flatMap};
-ghost use Prim.Native.Nat.{ℕ, _+_, _*_, _-_, _≤_, _<_};
+ghost use Prim.Native.Nat.{ℕ, suc, _+_, _*_, _-_, _≤_, _<_};
 ghost use lib.ListN.{length, getD};
 ghost use lib.Seq.{sets};
 ghost use Rattle.words.specs.Words.{written};
@@ -11,7 +11,7 @@ ghost use Rattle.network.specs.Events.{routes-of};
 ghost use Rattle.network.specs.Bounds.{no-earlier, order-bounds};
 ghost use Rattle.network.specs.BoundArrays.{bound-ends, bound-range};
 ghost use Rattle.limits.specs.Limits.{of-paths};
-ghost use Rattle.limits.specs.Counts.{total, moves, Linked};
+ghost use Rattle.limits.specs.Counts.{total, moves, same-cart, Skipped, Grouped, next-after};
 ghost use Rattle.limits.specs.Row.{row-bounds, row-in, bounds-from};
 
 // The entry event of visit u, one of cart j. From a cart's visit to its next are three events, from its last to the next cart's first one.
@@ -31,13 +31,56 @@ fn put_bound(ends: &mut [u16], ranges: &mut [u64], k: usize, from: u16, to: u16)
     network::put_bound(ends, ranges, k, from, to, 0, 0);
 }
 
-// Writes the bounds from visit v, the first of them number k; returns the number after them. The visits of its remainder are gone through.
+// Whether the next visit after u, from which on `left` of n are left, is of u's cart.
+fn is_same_cart(numbers: &[u8], n: usize, u: usize, left: usize) -> bool
+    requires { ⌜ (n ≤ 1408) × (u < n) × (left ≤ n) × (length (now numbers) ≡ 1408) ⌝ }
+    ensures { λ r. ⌜ r ≡ same-cart (now (numbers .entry)) n u left ⌝ }
+{
+    if left == 0 {
+        return false;
+    }
+    numbers[u] == numbers[n - left]
+}
+
+// Puts to each of n linked visits the next of its remainder that is of another cart.
+fn put_skips(numbers: &[u8], nexts: &[u16], n: usize, skips: &mut [u16])
+    requires { ⌜ (n ≤ 1408) × (length (now numbers) ≡ 1408) × (length (now nexts) ≡ 1408) × (length (now skips) ≡ 1408) ⌝ }
+    requires { ⌜ ((l : ℕ) → l < n → getD (now nexts) (n - suc l) 0 ≤ l) ⌝ }
+    ensures { λ _. ⌜ Skipped (now (numbers .entry)) (now (nexts .entry)) (now (skips .exit)) n n ⌝ }
+{
+    let mut left: usize = 0;
+    while left < n {
+        left += 1;
+        let u = n - left;
+        let next = nexts[u];
+        if is_same_cart(numbers, n, u, next as usize) {
+            skips[u] = skips[n - next as usize];
+        } else {
+            skips[u] = next;
+        }
+    }
+}
+
+// The next visit to look at after u, one of cart i: none of its cart where that is j or k, which are not counted.
+fn next_after(nexts: &[u16], skips: &[u16], u: usize, i: u8, j: u8, k: u8) -> u16
+    requires { ⌜ (u < 1408) × (length (now nexts) ≡ 1408) × (length (now skips) ≡ 1408) ⌝ }
+    ensures { λ r. ⌜ r ≡ next-after (now (nexts .entry)) (now (skips .entry)) u i j k ⌝ }
+{
+    if (j == i) | (k == i) {
+        return skips[u];
+    }
+    nexts[u]
+}
+
+// Writes the bounds from visit v, the first of them number k; returns the number after them. The visits of its remainder are gone
+// through, without those of a cart that is not counted.
 fn put_later(
     numbers: &[u8],
     times: &[u16],
     places: &[u32],
     heads: &[u16],
     nexts: &[u16],
+    skips: &[u16],
     n: usize,
     v: usize,
     k: usize,
@@ -45,7 +88,7 @@ fn put_later(
     ranges: &mut [u64],
 ) -> usize
     requires { ⌜ (n ≤ 1408) × (v < n) × ((u : ℕ) → u < n → getD (now numbers) u 0 ≤ u + 1) ⌝ }
-    requires { ⌜ (length (now numbers) ≡ 1408) × (length (now times) ≡ 1408) × (length (now places) ≡ 1408) × (length (now heads) ≡ 1024) × (length (now nexts) ≡ 1408) × Linked (now places) (now heads) (now nexts) n n ⌝ }
+    requires { ⌜ (length (now numbers) ≡ 1408) × (length (now times) ≡ 1408) × (length (now places) ≡ 1408) × (length (now heads) ≡ 1024) × (length (now nexts) ≡ 1408) × (length (now skips) ≡ 1408) × Grouped (now numbers) (now places) (now heads) (now nexts) (now skips) n ⌝ }
     requires { ⌜ (2 * (k + length (bounds-from (now numbers) (now times) (now places) n v)) ≤ length (now ends)) × (2 * (k + length (bounds-from (now numbers) (now times) (now places) n v)) ≤ length (now ranges)) ⌝ }
     ensures { λ r. ⌜ r ≡ k + length (bounds-from (now (numbers .entry)) (now (times .entry)) (now (places .entry)) n v) ⌝ }
     ensures { λ _. ⌜ now (ends .exit) ≡ sets (now (ends .entry)) (2 * k) (flatMap bound-ends (bounds-from (now (numbers .entry)) (now (times .entry)) (now (places .entry)) n v)) ⌝ }
@@ -67,7 +110,7 @@ fn put_later(
             m += 1;
             last = i;
         }
-        left = nexts[u] as usize;
+        left = next_after(nexts, skips, u, i, j, last) as usize;
     }
     m
 }
@@ -79,13 +122,14 @@ fn put_orders(
     places: &[u32],
     heads: &[u16],
     nexts: &[u16],
+    skips: &[u16],
     n: usize,
     ends: &mut [u16],
     ranges: &mut [u64],
 ) -> usize
     requires { ⌜ (n ≤ 1408) × ((u : ℕ) → u < n → getD (now numbers) u 0 ≤ u + 1) ⌝ }
     requires { ⌜ (length (now numbers) ≡ 1408) × (length (now times) ≡ 1408) × (length (now places) ≡ 1408) ⌝ }
-    requires { ⌜ (length (now heads) ≡ 1024) × (length (now nexts) ≡ 1408) × Linked (now places) (now heads) (now nexts) n n ⌝ }
+    requires { ⌜ (length (now heads) ≡ 1024) × (length (now nexts) ≡ 1408) × (length (now skips) ≡ 1408) × Grouped (now numbers) (now places) (now heads) (now nexts) (now skips) n ⌝ }
     requires { ⌜ 2 * length (row-bounds (row-in (now numbers) (now times) (now places) n 0)) ≤ length (now ends) ⌝ }
     requires { ⌜ 2 * length (row-bounds (row-in (now numbers) (now times) (now places) n 0)) ≤ length (now ranges) ⌝ }
     ensures { λ r. ⌜ r ≡ length (row-bounds (row-in (now (numbers .entry)) (now (times .entry)) (now (places .entry)) n 0)) ⌝ }
@@ -96,7 +140,19 @@ fn put_orders(
     let mut v: usize = 0;
     while v + 1 < n {
         if numbers[v] == numbers[v + 1] {
-            k = put_later(numbers, times, places, heads, nexts, n, v, k, ends, ranges);
+            k = put_later(
+                numbers,
+                times,
+                places,
+                heads,
+                nexts,
+                skips,
+                n,
+                v,
+                k,
+                ends,
+                ranges,
+            );
         }
         v += 1;
     }
@@ -126,5 +182,17 @@ pub(crate) fn write_orders(
     let mut heads: [u16; 1024] = [0; 1024];
     let mut nexts: [u16; 1408] = [0; 1408];
     count::link(&places, n, &mut heads, &mut nexts);
-    put_orders(&numbers, &times, &places, &heads, &nexts, n, ends, ranges)
+    let mut skips: [u16; 1408] = [0; 1408];
+    put_skips(&numbers, &nexts, n, &mut skips);
+    put_orders(
+        &numbers,
+        &times,
+        &places,
+        &heads,
+        &nexts,
+        &skips,
+        n,
+        ends,
+        ranges,
+    )
 }

@@ -20,17 +20,23 @@ slice-aggregate-put-all-3 c = search needs
 put-all-requires : tie.Need-put-all-requires
 put-all-requires c κs = search needs
 
-slice-aggregate-link : tie.Need-slice-aggregate-link
-slice-aggregate-link c = search needs
+slice-aggregate-link-last : tie.Need-slice-aggregate-link-last
+slice-aggregate-link-last c = search needs
 
-slice-aggregate-link-2 : tie.Need-slice-aggregate-link-2
-slice-aggregate-link-2 c = search needs
+slice-aggregate-link-last-2 : tie.Need-slice-aggregate-link-last-2
+slice-aggregate-link-last-2 c = search needs
 
-slice-aggregate-link-3 : tie.Need-slice-aggregate-link-3
-slice-aggregate-link-3 c = search needs
+slice-aggregate-link-last-3 : tie.Need-slice-aggregate-link-last-3
+slice-aggregate-link-last-3 c = search needs
 
-link-requires : tie.Need-link-requires
-link-requires c κs = ((omega arith, search needs, search needs, search needs), λ b h. getD-replicate 1024 b 0 0 h)
+slice-aggregate-link-last-4 : tie.Need-slice-aggregate-link-last-4
+slice-aggregate-link-last-4 c = search needs
+
+slice-aggregate-link-last-5 : tie.Need-slice-aggregate-link-last-5
+slice-aggregate-link-last-5 c = search needs
+
+link-last-requires : tie.Need-link-last-requires
+link-last-requires c κs = ((omega arith, search needs, search needs, search needs), ((search needs, search needs), λ b h. getD-replicate 1024 b 0 0 h))
 
 slice-aggregate-orders-among : tie.Need-slice-aggregate-orders-among
 slice-aggregate-orders-among c = search needs
@@ -53,8 +59,8 @@ orders-among-requires c κs = search needs
 returns : tie.Need-returns
 returns c =
     let l = c .before .before .before .before .before .before .before .before in
-    let p = l .before .before .before .before .before .before .before in
-    (c .orders-among .ensures .0 ∙ ap orders-among (p .put-all .ensures .1), c .orders-among .ensures .1)
+    let p = l .before .before .before .before .before .before .before .before .before in
+    c .orders-among .ensures ∙ ap orders-among (p .put-all .ensures .1)
 
 pub all-orders-spec : {M : Type 1} → statement M
 all-orders-spec =
@@ -64,10 +70,12 @@ all-orders-spec =
     slice-aggregate-put-all-2
     slice-aggregate-put-all-3
     put-all-requires
-    slice-aggregate-link
-    slice-aggregate-link-2
-    slice-aggregate-link-3
-    link-requires
+    slice-aggregate-link-last
+    slice-aggregate-link-last-2
+    slice-aggregate-link-last-3
+    slice-aggregate-link-last-4
+    slice-aggregate-link-last-5
+    link-last-requires
     slice-aggregate-orders-among
     slice-aggregate-orders-among-2
     slice-aggregate-orders-among-3

@@ -90,10 +90,8 @@ returns : tie.Need-returns Inv-loop μ-loop
 returns c =
     let l = c .before in
     let a = l .before .before .before .before .before .before .args in
-    let all : List Entry = row-in (a .numbers .now) (a .times .now) (a .places .now) (a .n) 0 in (
-      omega (arith, ap (λ (bs : List Bound). length bs) (row-none (a .numbers .now) (a .times .now) (a .places .now) all (a .n) (l .loop .v) (c .loop-test .left))),
-      omega arith,
-    )
+    let all : List Entry = row-in (a .numbers .now) (a .times .now) (a .places .now) (a .n) 0 in
+    omega (arith, ap (λ (bs : List Bound). length bs) (row-none (a .numbers .now) (a .times .now) (a .places .now) all (a .n) (l .loop .v) (c .loop-test .left)))
 
 pub orders-among-spec : {M : Type 1} → statement M
 orders-among-spec =

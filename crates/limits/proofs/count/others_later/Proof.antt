@@ -6,19 +6,16 @@ use mathlib.Core.Path.{_≡_, refl, ap, sym, _∙_}
 use mathlib.Core.Logic.{⊎-elim}
 use mathlib.Core.List.{List}
 use borrow.Author.Needs.{needs}
-use lib.ListN.{length, getD}
-use Rattle.network.specs.Bounds.{Bound}
-use Rattle.limits.specs.Counts.{counts, later-carts, stop-at, stops-in}
-use Rattle.limits.specs.Row.{Entry, later-bounds, placed, row-in}
-use Rattle.limits.proofs.CountSteps.{laters-count}
-use Rattle.limits.proofs.Links.{walk-begins, walk-goes, walk-counted, walk-passes}
+use lib.ListN.{getD}
+use Rattle.limits.specs.Counts.{Stop, counts, later-carts, stop-at, stops-in}
+use Rattle.limits.proofs.Chains.{chain-begins, chain-goes, chain-counts, chain-passes}
 use Rattle.limits.proofs.count.others_later.Statement.{statement}
 use Rattle.limits.proofs.count.others_later.Tie as tie
 
 abbrev Inv-loop : tie.InvT-loop
 Inv-loop numbers times places heads nexts n v j t c k₀ count₀ left₀ k count left =
     (left ≤ n) × (count + left ≤ n) × (0 < left → getD places (n - left) 0 % 1024 ≡ c % 1024)
-    × (count + length (later-bounds (record { visit = record { cart = j; step = t; cell = c }; event = 0 }) k (row-in numbers times places left (n - left)))
+    × (count + later-carts (record { cart = j; step = t; cell = c }) k (stops-in numbers times places left (n - left))
     ≡ later-carts (record { cart = j; step = t; cell = c }) 0 (stops-in numbers times places n 0))
 
 abbrev μ-loop : tie.MeasureT-loop
@@ -57,9 +54,9 @@ loop-holds : tie.Need-loop-holds Inv-loop μ-loop
 loop-holds c =
     let z = c .before .before .before .before .before .before .before .before .before in
     let a = z .args in
-    let v : Entry = record { visit = record { cart = getD (a .numbers .now) (a .v) 0; step = getD (a .times .now) (a .v) 0; cell = getD (a .places .now) (a .v) 0 }; event = 0 } in
-    let (l, r, w) = walk-begins (a .numbers .now) (a .times .now) (a .places .now) (a .heads .now) (a .nexts .now) (a .n) (z .pre .1 .1 .2) v (getD (a .heads .now) (getD (a .places .now) (a .v) 0 % 1024) 0) refl in
-    (l, omega (arith, l), r, omega (arith, ap (λ (bs : List Bound). length bs) w, laters-count (a .numbers .now) (a .times .now) (a .places .now) v 0 (a .n) 0))
+    let v : Stop = record { cart = getD (a .numbers .now) (a .v) 0; step = getD (a .times .now) (a .v) 0; cell = getD (a .places .now) (a .v) 0 } in
+    let (l, r, w) = chain-begins (a .numbers .now) (a .times .now) (a .places .now) (a .n) (a .heads .now) (a .nexts .now) (z .pre .1 .1 .2) v (getD (a .heads .now) (getD (a .places .now) (a .v) 0 % 1024) 0) refl in
+    (l, omega (arith, l), r, omega (arith, w))
 
 sub-u : tie.Need-sub-u Inv-loop μ-loop
 sub-u c = search needs
@@ -104,9 +101,9 @@ loop-less c =
     let l = q .before in
     let z = l .before .before .before .before .before .before .before .before .before .before in
     let a = z .args in
-    let v : Entry = record { visit = record { cart = getD (a .numbers .now) (a .v) 0; step = getD (a .times .now) (a .v) 0; cell = getD (a .places .now) (a .v) 0 }; event = 0 } in
+    let v : Stop = record { cart = getD (a .numbers .now) (a .v) 0; step = getD (a .times .now) (a .v) 0; cell = getD (a .places .now) (a .v) 0 } in
     let t : 0 < l .loop .left = q .loop-test .taken in
-    walk-goes (a .numbers .now) (a .times .now) (a .places .now) (a .heads .now) (a .nexts .now) (a .n) (z .pre .1 .1 .2) v (l .loop .left) t (l .loop .inv .0) (l .loop .inv .2 t) (getD (a .nexts .now) (a .n - l .loop .left) 0) refl .0
+    chain-goes (a .numbers .now) (a .times .now) (a .places .now) (a .n) (a .heads .now) (a .nexts .now) (z .pre .1 .1 .2) v (l .loop .left) t (l .loop .inv .0) (l .loop .inv .2 t) (getD (a .nexts .now) (a .n - l .loop .left) 0) refl .0
 
 loop-again : tie.Need-loop-again Inv-loop μ-loop
 unfolding stop-at
@@ -116,12 +113,12 @@ loop-again c =
     let l = q .before in
     let z = l .before .before .before .before .before .before .before .before .before .before in
     let a = z .args in
-    let v : Entry = record { visit = record { cart = getD (a .numbers .now) (a .v) 0; step = getD (a .times .now) (a .v) 0; cell = getD (a .places .now) (a .v) 0 }; event = 0 } in
+    let v : Stop = record { cart = getD (a .numbers .now) (a .v) 0; step = getD (a .times .now) (a .v) 0; cell = getD (a .places .now) (a .v) 0 } in
     let next : ℕ = getD (a .nexts .now) (a .n - l .loop .left) 0 in
-    let rest : List Entry = row-in (a .numbers .now) (a .times .now) (a .places .now) next (a .n - next) in
+    let rest : List Stop = stops-in (a .numbers .now) (a .times .now) (a .places .now) next (a .n - next) in
     let t : 0 < l .loop .left = q .loop-test .taken in
-    let e : f .is-counted .result ≡ counts (v .visit) (l .loop .k) (stop-at (a .numbers .now) (a .times .now) (a .places .now) (a .n - l .loop .left)) = f .is-counted .ensures in
-    let (less, same) = walk-goes (a .numbers .now) (a .times .now) (a .places .now) (a .heads .now) (a .nexts .now) (a .n) (z .pre .1 .1 .2) v (l .loop .left) t (l .loop .inv .0) (l .loop .inv .2 t) next refl in
+    let e : f .is-counted .result ≡ counts v (l .loop .k) (stop-at (a .numbers .now) (a .times .now) (a .places .now) (a .n - l .loop .left)) = f .is-counted .ensures in
+    let (less, same) = chain-goes (a .numbers .now) (a .times .now) (a .places .now) (a .n) (a .heads .now) (a .nexts .now) (z .pre .1 .1 .2) v (l .loop .left) t (l .loop .inv .0) (l .loop .inv .2 t) next refl in
     ⊎-elim
     (λ w. (
       omega (arith, less),
@@ -129,8 +126,8 @@ loop-again c =
       same,
       omega (
         arith,
-        ap (λ (k : ℕ). length (later-bounds v k rest)) (w .1),
-        walk-counted (a .numbers .now) (a .times .now) (a .places .now) (a .heads .now) (a .nexts .now) (a .n) (z .pre .1 .1 .2) v (l .loop .left) t (l .loop .inv .0) (l .loop .inv .2 t) next refl (l .loop .k) (sym e ∙ w .0 .taken),
+        ap (λ (k : ℕ). later-carts v k rest) (w .1),
+        chain-counts (a .numbers .now) (a .times .now) (a .places .now) (a .n) (a .heads .now) (a .nexts .now) (z .pre .1 .1 .2) v (l .loop .left) t (l .loop .inv .0) (l .loop .inv .2 t) next refl (l .loop .k) (sym e ∙ w .0 .taken),
       ),
     ))
     (λ w. (
@@ -139,20 +136,20 @@ loop-again c =
       same,
       omega (
         arith,
-        ap (λ (k : ℕ). length (later-bounds v k rest)) (w .1),
-        ap (λ (bs : List Bound). length bs) (walk-passes (a .numbers .now) (a .times .now) (a .places .now) (a .heads .now) (a .nexts .now) (a .n) (z .pre .1 .1 .2) v (l .loop .left) t (l .loop .inv .0) (l .loop .inv .2 t) next refl (l .loop .k) (sym e ∙ w .0 .left)),
+        ap (λ (k : ℕ). later-carts v k rest) (w .1),
+        chain-passes (a .numbers .now) (a .times .now) (a .places .now) (a .n) (a .heads .now) (a .nexts .now) (z .pre .1 .1 .2) v (l .loop .left) t (l .loop .inv .0) (l .loop .inv .2 t) next refl (l .loop .k) (sym e ∙ w .0 .left),
       ),
     ))
     (c .before .if1 .came)
 
 returns : tie.Need-returns Inv-loop μ-loop
-unfolding stop-at later-bounds row-in placed stops-in
+unfolding stop-at later-carts stops-in
 returns c =
     let l = c .before in
     let a = l .before .before .before .before .before .before .before .before .before .before .args in
-    let v : Entry = record { visit = record { cart = getD (a .numbers .now) (a .v) 0; step = getD (a .times .now) (a .v) 0; cell = getD (a .places .now) (a .v) 0 }; event = 0 } in
+    let v : Stop = record { cart = getD (a .numbers .now) (a .v) 0; step = getD (a .times .now) (a .v) 0; cell = getD (a .places .now) (a .v) 0 } in
     let none : l .loop .left ≡ 0 = omega arith in
-    omega (arith, ap (λ (m : ℕ). length (later-bounds v (l .loop .k) (row-in (a .numbers .now) (a .times .now) (a .places .now) m (a .n - m)))) none)
+    omega (arith, ap (λ (m : ℕ). later-carts v (l .loop .k) (stops-in (a .numbers .now) (a .times .now) (a .places .now) m (a .n - m))) none)
 
 pub others-later-spec : {M : Type 1} → statement M
 others-later-spec =

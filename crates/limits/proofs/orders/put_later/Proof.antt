@@ -4,25 +4,26 @@ use Prim.Native.Nat.{ℕ, _+_, _*_, _%_, _≤_, _<_, _-_}
 use native.Mathlib.Omega.{arith}
 use mathlib.Core.Path.{_≡_, refl, ap, sym, _∙_}
 use mathlib.Core.Logic.{⊎-elim}
-use mathlib.Core.List.{List, _∷_}
+use mathlib.Core.List.{List}
 use borrow.Author.Needs.{needs}
 use lib.ListN.{length, getD}
 use Rattle.network.specs.Bounds.{Bound, no-earlier}
-use Rattle.limits.specs.Counts.{counts, stop-at, stops-in}
+use Rattle.limits.specs.Counts.{counts, stop-at, stops-in, next-after}
 use Rattle.limits.specs.Row.{Entry, later-bounds, entry-at, placed, entry-in, row-in}
-use Rattle.limits.proofs.Links.{walk-begins, walk-goes, walk-counts, walk-passes}
+use Rattle.limits.proofs.Links.{walk-begins}
+use Rattle.limits.proofs.Skips.{skip-fewer, skip-counts, skip-passes}
 use Rattle.limits.proofs.OrderSteps.{ToWrite, write-first, write-one, write-none, room-one, written-all}
 use Rattle.limits.proofs.orders.put_later.Statement.{statement}
 use Rattle.limits.proofs.orders.put_later.Tie as tie
 
 abbrev Inv-loop : tie.InvT-loop
-Inv-loop numbers times places heads nexts n v k ends₀ ranges₀ j t c from last₀ m₀ left₀ ends ranges last m left =
+Inv-loop numbers times places heads nexts skips n v k ends₀ ranges₀ j t c from last₀ m₀ left₀ ends ranges last m left =
     (left ≤ n) × (0 < left → getD places (n - left) 0 % 1024 ≡ c % 1024)
     × ToWrite (later-bounds (entry-in numbers times places v) 0 (row-in numbers times places n 0)) k ends₀ ranges₀
     (later-bounds (entry-in numbers times places v) last (row-in numbers times places left (n - left))) m ends ranges
 
 abbrev μ-loop : tie.MeasureT-loop
-μ-loop numbers times places heads nexts n v k ends₀ ranges₀ j t c from last₀ m₀ left₀ ends ranges last m left = left
+μ-loop numbers times places heads nexts skips n v k ends₀ ranges₀ j t c from last₀ m₀ left₀ ends ranges last m left = left
 
 shared-slice-read-j : tie.Need-shared-slice-read-j Inv-loop μ-loop
 shared-slice-read-j c = search needs
@@ -40,7 +41,7 @@ shared-slice-read-c : tie.Need-shared-slice-read-c Inv-loop μ-loop
 shared-slice-read-c c = search needs
 
 entry-event-requires : tie.Need-entry-event-requires Inv-loop μ-loop
-entry-event-requires c κs = let z = c .before .before .before .before .before .before .before .before .before .before in (omega arith, z .pre .0 .2 (z .args .v) (z .pre .0 .1))
+entry-event-requires c κs = let z = c .before .before .before .before .before .before .before .before .before .before .before in (omega arith, z .pre .0 .2 (z .args .v) (z .pre .0 .1))
 
 add-from : tie.Need-add-from Inv-loop μ-loop
 add-from c = search needs
@@ -55,16 +56,16 @@ shared-slice-read-left : tie.Need-shared-slice-read-left Inv-loop μ-loop
 shared-slice-read-left c = search needs
 
 cast-left-2 : tie.Need-cast-left-2 Inv-loop μ-loop
-cast-left-2 c = let a = c .before .before .before .before .before .before .before .before .before .before .before .before .args in omega (arith, c .shared-slice-known9 .given (getD (a .places .now) (a .v) 0 % 1024))
+cast-left-2 c = let a = c .before .before .before .before .before .before .before .before .before .before .before .before .before .args in omega (arith, c .shared-slice-known10 .given (getD (a .places .now) (a .v) 0 % 1024))
 
 loop-holds : tie.Need-loop-holds Inv-loop μ-loop
 unfolding entry-in stop-at
 loop-holds c =
-    let z = c .before .before .before .before .before .before .before .before .before .before .before .before in
+    let z = c .before .before .before .before .before .before .before .before .before .before .before .before .before in
     let a = z .args in
     let v : Entry = entry-in (a .numbers .now) (a .times .now) (a .places .now) (a .v) in
     let left : ℕ = getD (a .heads .now) (getD (a .places .now) (a .v) 0 % 1024) 0 in
-    let (l, r, w) = walk-begins (a .numbers .now) (a .times .now) (a .places .now) (a .heads .now) (a .nexts .now) (a .n) (z .pre .1 .0 .5) v left refl in (
+    let (l, r, w) = walk-begins (a .numbers .now) (a .times .now) (a .places .now) (a .heads .now) (a .nexts .now) (a .n) (z .pre .1 .0 .6 .linked) v left refl in (
       l,
       r,
       write-first (later-bounds v 0 (row-in (a .numbers .now) (a .times .now) (a .places .now) (a .n) 0))
@@ -80,13 +81,13 @@ shared-slice-read-i c = search needs
 entry-event-requires-2 : tie.Need-entry-event-requires-2 Inv-loop μ-loop
 entry-event-requires-2 c κs =
     let l = c .before .before in
-    let z = l .before .before .before .before .before .before .before .before .before .before .before .before .before in
+    let z = l .before .before .before .before .before .before .before .before .before .before .before .before .before .before in
     (omega arith, z .pre .0 .2 (z .args .n - l .loop .left) (omega arith))
 
 sub-to : tie.Need-sub-to Inv-loop μ-loop
 sub-to c =
     let l = c .before .before .before in
-    let z = l .before .before .before .before .before .before .before .before .before .before .before .before .before in
+    let z = l .before .before .before .before .before .before .before .before .before .before .before .before .before .before in
     omega (arith, c .entry-event2 .ensures, z .pre .0 .2 (z .args .n - l .loop .left) (omega arith))
 
 mul-is-counted : tie.Need-mul-is-counted Inv-loop μ-loop
@@ -111,10 +112,11 @@ unfolding entry-in stop-at
 room c =
     let q = c .before .before .before .before .before .before in
     let l = q .before in
-    let z = l .before .before .before .before .before .before .before .before .before .before .before .before .before in
+    let z = l .before .before .before .before .before .before .before .before .before .before .before .before .before .before in
     let a = z .args in
     let v : Entry = entry-in (a .numbers .now) (a .times .now) (a .places .now) (a .v) in
-    let next : ℕ = getD (a .nexts .now) (a .n - l .loop .left) 0 in
+    let i : ℕ = getD (a .numbers .now) (a .n - l .loop .left) 0 in
+    let next : ℕ = next-after (a .nexts .now) (a .skips .now) (a .n - l .loop .left) i (v .visit .cart) i in
     let t : 0 < l .loop .left = q .loop-test .taken in
     let f = c .before in
     let e : f .is-counted .result ≡ counts (v .visit) (l .loop .last) (stop-at (a .numbers .now) (a .times .now) (a .places .now) (a .n - l .loop .left)) = f .is-counted .ensures in
@@ -122,7 +124,7 @@ room c =
     room-one (later-bounds v 0 (row-in (a .numbers .now) (a .times .now) (a .places .now) (a .n) 0)) (a .k) (a .ends .now) (a .ranges .now)
     (later-bounds v (l .loop .last) (row-in (a .numbers .now) (a .times .now) (a .places .now) (l .loop .left) (a .n - l .loop .left))) (l .loop .m) (l .loop .ends) (l .loop .ranges) (l .loop .inv .2)
     (no-earlier (v .event + 1) (3 * (a .n - l .loop .left) + 3 - 2 * getD (a .numbers .now) (a .n - l .loop .left) 0 - 1)) rest
-    (walk-counts (a .numbers .now) (a .times .now) (a .places .now) (a .heads .now) (a .nexts .now) (a .n) (z .pre .1 .0 .5) v (l .loop .left) t (l .loop .inv .0) (l .loop .inv .1 t) next refl (l .loop .last) (sym e ∙ c .if1 .taken)) (z .pre .1 .1 .0) (z .pre .1 .1 .1)
+    (skip-counts (a .numbers .now) (a .times .now) (a .places .now) (a .heads .now) (a .nexts .now) (a .skips .now) (a .n) (z .pre .1 .0 .6) v (l .loop .left) t (l .loop .inv .0) (l .loop .inv .1 t) i next refl (l .loop .last) (sym e ∙ c .if1 .taken) refl) (z .pre .1 .1 .0) (z .pre .1 .1 .1)
 
 put-bound-requires : tie.Need-put-bound-requires Inv-loop μ-loop
 put-bound-requires c κs = room (c .before .before)
@@ -130,31 +132,34 @@ put-bound-requires c κs = room (c .before .before)
 add-m : tie.Need-add-m Inv-loop μ-loop
 add-m c =
     let l = c .before .before .before .before .before .before .before .before .before .before .before .before .before .before in
-    let long : length (l .loop .ends) ≡ length (l .before .before .before .before .before .before .before .before .before .before .before .before .before .args .ends .now) = l .loop .inv .2 .ends-long in
-    omega (arith, room (c .before .before .before .before .before .before .before), l .before .before .before .before .before .before .before .before .before .before .before .before .before .good .1 .1 .1 .1 .1 .1 .1 .1 .0 .0)
+    let long : length (l .loop .ends) ≡ length (l .before .before .before .before .before .before .before .before .before .before .before .before .before .before .args .ends .now) = l .loop .inv .2 .ends-long in
+    omega (arith, room (c .before .before .before .before .before .before .before), l .before .before .before .before .before .before .before .before .before .before .before .before .before .before .good .1 .1 .1 .1 .1 .1 .1 .1 .1 .0 .0)
 
-mul-left-2 : tie.Need-mul-left-2 Inv-loop μ-loop
-mul-left-2 c = search needs
+next-after-requires : tie.Need-next-after-requires Inv-loop μ-loop
+next-after-requires c κs =
+    let l = c .before .before .before .before .before .before .before in
+    let z = l .before .before .before .before .before .before .before .before .before .before .before .before .before .before in
+    (omega arith, z .pre .1 .0 .4, z .pre .1 .0 .5)
 
-shared-slice-read-left-2 : tie.Need-shared-slice-read-left-2 Inv-loop μ-loop
-shared-slice-read-left-2 c = search needs
-
-cast-left-3 : tie.Need-cast-left-3 Inv-loop μ-loop
-cast-left-3 c =
-    let l = c .before .before .before .before .before .before .before .before in
-    omega (arith, c .shared-slice-known13 .given (l .before .before .before .before .before .before .before .before .before .before .before .before .before .args .n - l .loop .left))
-
-loop-less : tie.Need-loop-less Inv-loop μ-loop
+-- fewer visits are left, and the next is of the same remainder
+goes : (c : tie.After-next-after Inv-loop μ-loop)
+    → let l = c .before .before .before .before .before .before .before .before in let a = l .before .before .before .before .before .before .before .before .before .before .before .before .before .before .args in
+    (c .next-after .result < l .loop .left) × (0 < c .next-after .result → getD (a .places .now) (a .n - c .next-after .result) 0 % 1024 ≡ getD (a .places .now) (a .v) 0 % 1024)
 unfolding entry-in stop-at
-loop-less c =
+goes c =
     let q = c .before .before .before .before .before .before .before in
     let l = q .before in
-    let z = l .before .before .before .before .before .before .before .before .before .before .before .before .before in
+    let z = l .before .before .before .before .before .before .before .before .before .before .before .before .before .before in
     let a = z .args in
     let v : Entry = entry-in (a .numbers .now) (a .times .now) (a .places .now) (a .v) in
-    let next : ℕ = getD (a .nexts .now) (a .n - l .loop .left) 0 in
     let t : 0 < l .loop .left = q .loop-test .taken in
-    walk-goes (a .numbers .now) (a .times .now) (a .places .now) (a .heads .now) (a .nexts .now) (a .n) (z .pre .1 .0 .5) v (l .loop .left) t (l .loop .inv .0) (l .loop .inv .1 t) next refl .0
+    skip-fewer (a .numbers .now) (a .times .now) (a .places .now) (a .heads .now) (a .nexts .now) (a .skips .now) (a .n) (z .pre .1 .0 .6) v (l .loop .left) t (l .loop .inv .0) (l .loop .inv .1 t) (c .before .if1 .last) (c .next-after .result) (c .next-after .ensures)
+
+cast-left-3 : tie.Need-cast-left-3 Inv-loop μ-loop
+cast-left-3 c = omega (arith, goes c .0)
+
+loop-less : tie.Need-loop-less Inv-loop μ-loop
+loop-less c = goes c .0
 
 loop-again : tie.Need-loop-again Inv-loop μ-loop
 unfolding entry-in entry-at stop-at
@@ -163,17 +168,17 @@ loop-again c =
     let g = f .before .before .before in
     let q = g .before .before in
     let l = q .before in
-    let z = l .before .before .before .before .before .before .before .before .before .before .before .before .before in
+    let z = l .before .before .before .before .before .before .before .before .before .before .before .before .before .before in
     let a = z .args in
     let v : Entry = entry-in (a .numbers .now) (a .times .now) (a .places .now) (a .v) in
-    let next : ℕ = getD (a .nexts .now) (a .n - l .loop .left) 0 in
+    let next : ℕ = c .next-after .result in
     let t : 0 < l .loop .left = q .loop-test .taken in
     let u : ℕ = a .n - l .loop .left in
     let rest : ℕ → List Bound = λ k. later-bounds v k (row-in (a .numbers .now) (a .times .now) (a .places .now) next (a .n - next)) in
     let e : f .is-counted .result ≡ counts (v .visit) (l .loop .last) (stop-at (a .numbers .now) (a .times .now) (a .places .now) u) = f .is-counted .ensures in
     let from : l .before .before .entry-event .result ≡ 3 * a .v + 3 - 2 * getD (a .numbers .now) (a .v) 0 = l .before .before .entry-event .ensures in
     let to : g .entry-event2 .result ≡ 3 * u + 3 - 2 * getD (a .numbers .now) u 0 = g .entry-event2 .ensures in
-    let (less, same) = walk-goes (a .numbers .now) (a .times .now) (a .places .now) (a .heads .now) (a .nexts .now) (a .n) (z .pre .1 .0 .5) v (l .loop .left) t (l .loop .inv .0) (l .loop .inv .1 t) next refl in
+    let (less, same) = goes c in
     ⊎-elim
     (λ w. (
       omega (arith, less),
@@ -181,7 +186,7 @@ loop-again c =
       write-one (later-bounds v 0 (row-in (a .numbers .now) (a .times .now) (a .places .now) (a .n) 0)) (a .k) (a .ends .now) (a .ranges .now)
           (later-bounds v (l .loop .last) (row-in (a .numbers .now) (a .times .now) (a .places .now) (l .loop .left) (a .n - l .loop .left))) (l .loop .m) (l .loop .ends) (l .loop .ranges) (l .loop .inv .2)
           (v .event + 1) (3 * u + 3 - 2 * getD (a .numbers .now) u 0 - 1) (l .before .before .entry-event .result + 1) (g .entry-event2 .result - 1) (rest (c .before .if1 .last))
-          (walk-counts (a .numbers .now) (a .times .now) (a .places .now) (a .heads .now) (a .nexts .now) (a .n) (z .pre .1 .0 .5) v (l .loop .left) t (l .loop .inv .0) (l .loop .inv .1 t) next refl (l .loop .last) (sym e ∙ w .0 .taken) ∙ ap (λ (k : ℕ). no-earlier (v .event + 1) (3 * u + 3 - 2 * getD (a .numbers .now) u 0 - 1) ∷ rest k) (sym (w .10)))
+          (skip-counts (a .numbers .now) (a .times .now) (a .places .now) (a .heads .now) (a .nexts .now) (a .skips .now) (a .n) (z .pre .1 .0 .6) v (l .loop .left) t (l .loop .inv .0) (l .loop .inv .1 t) (c .before .if1 .last) next (c .next-after .ensures) (l .loop .last) (sym e ∙ w .0 .taken) (w .10))
           (ap (λ (x : ℕ). x + 1) from) (ap (λ (x : ℕ). x - 1) to) (c .before .if1 .m) (c .before .if1 .ends) (c .before .if1 .ranges)
           (w .11) (w .8 ∙ w .3 .ensures .0) (w .9 ∙ w .3 .ensures .1),
     ))
@@ -191,7 +196,7 @@ loop-again c =
       write-none (later-bounds v 0 (row-in (a .numbers .now) (a .times .now) (a .places .now) (a .n) 0)) (a .k) (a .ends .now) (a .ranges .now)
           (later-bounds v (l .loop .last) (row-in (a .numbers .now) (a .times .now) (a .places .now) (l .loop .left) (a .n - l .loop .left))) (l .loop .m) (l .loop .ends) (l .loop .ranges) (l .loop .inv .2)
           (rest (c .before .if1 .last))
-          (walk-passes (a .numbers .now) (a .times .now) (a .places .now) (a .heads .now) (a .nexts .now) (a .n) (z .pre .1 .0 .5) v (l .loop .left) t (l .loop .inv .0) (l .loop .inv .1 t) next refl (l .loop .last) (sym e ∙ w .0 .left) ∙ ap rest (sym (w .3)))
+          (skip-passes (a .numbers .now) (a .times .now) (a .places .now) (a .heads .now) (a .nexts .now) (a .skips .now) (a .n) (z .pre .1 .0 .6) v (l .loop .left) t (l .loop .inv .0) (l .loop .inv .1 t) (c .before .if1 .last) next (c .next-after .ensures) (l .loop .last) (sym e ∙ w .0 .left) (w .3))
           (c .before .if1 .m) (c .before .if1 .ends) (c .before .if1 .ranges) (w .4) (w .1) (w .2),
     ))
     (c .before .if1 .came)
@@ -206,7 +211,7 @@ returns : tie.Need-returns Inv-loop μ-loop
 unfolding later-bounds row-in placed stops-in
 returns c =
     let l = c .before in
-    let a = l .before .before .before .before .before .before .before .before .before .before .before .before .before .args in
+    let a = l .before .before .before .before .before .before .before .before .before .before .before .before .before .before .args in
     let v : Entry = entry-in (a .numbers .now) (a .times .now) (a .places .now) (a .v) in
     let none : l .loop .left ≡ 0 = omega arith in
     written-all (later-bounds v 0 (row-in (a .numbers .now) (a .times .now) (a .places .now) (a .n) 0)) (a .k) (a .ends .now) (a .ranges .now)
@@ -242,8 +247,7 @@ put-later-spec =
     is-counted-requires
     put-bound-requires
     add-m
-    mul-left-2
-    shared-slice-read-left-2
+    next-after-requires
     cast-left-3
     loop-less
     loop-again

@@ -14,16 +14,16 @@ use Rattle.limits.proofs.orders.put_orders.Statement.{statement}
 use Rattle.limits.proofs.orders.put_orders.Tie as tie
 
 abbrev Inv-loop : tie.InvT-loop
-Inv-loop numbers times places heads nexts n ends₀ ranges₀ k₀ v₀ ends ranges k v =
+Inv-loop numbers times places heads nexts skips n ends₀ ranges₀ k₀ v₀ ends ranges k v =
     (v ≤ n) × ToWrite (row-bounds (row-in numbers times places n 0)) 0 ends₀ ranges₀ (row-from (row-in numbers times places n 0) (row-in numbers times places (n - v) v)) k ends ranges
 
 abbrev μ-loop : tie.MeasureT-loop
-μ-loop numbers times places heads nexts n ends₀ ranges₀ k₀ v₀ ends ranges k v = n - v
+μ-loop numbers times places heads nexts skips n ends₀ ranges₀ k₀ v₀ ends ranges k v = n - v
 
 loop-holds : tie.Need-loop-holds Inv-loop μ-loop
 unfolding row-bounds
 loop-holds c =
-    let a = c .before .before .before .before .before .before .before .args in
+    let a = c .before .before .before .before .before .before .before .before .args in
     let all : List Entry = row-in (a .numbers .now) (a .times .now) (a .places .now) (a .n) 0 in
     let whole : a .n - 0 ≡ a .n = omega arith in (
       omega arith,
@@ -47,7 +47,7 @@ put-later-requires : tie.Need-put-later-requires Inv-loop μ-loop
 put-later-requires c κs =
     let q = c .before .before .before .before .before in
     let l = q .before in
-    let z = l .before .before .before .before .before .before .before .before in
+    let z = l .before .before .before .before .before .before .before .before .before in
     let a = z .args in
     let all : List Entry = row-in (a .numbers .now) (a .times .now) (a .places .now) (a .n) 0 in
     let some : List Bound = later-bounds (entry-in (a .numbers .now) (a .times .now) (a .places .now) (l .loop .v)) 0 all in
@@ -56,7 +56,7 @@ put-later-requires c κs =
     let (e, r) = room-some (row-bounds all) 0 (a .ends .now) (a .ranges .now) (row-from all (row-in (a .numbers .now) (a .times .now) (a .places .now) (a .n - l .loop .v) (l .loop .v))) (l .loop .k) (l .loop .ends) (l .loop .ranges) (l .loop .inv .1)
     some (row-from all (row-in (a .numbers .now) (a .times .now) (a .places .now) (a .n - (l .loop .v + 1)) (l .loop .v + 1)))
     (row-more (a .numbers .now) (a .times .now) (a .places .now) all (a .n) (l .loop .v) (q .loop-test .taken) (c .before .before .if1 .taken)) he hr in
-    ((omega arith, omega arith, z .pre .0 .1), ((z .pre .1 .0 .0, z .pre .1 .0 .1, z .pre .1 .0 .2, z .pre .1 .1 .0 .0, z .pre .1 .1 .0 .1, z .pre .1 .1 .0 .2), (e, r)))
+    ((omega arith, omega arith, z .pre .0 .1), ((z .pre .1 .0 .0, z .pre .1 .0 .1, z .pre .1 .0 .2, z .pre .1 .1 .0 .0, z .pre .1 .1 .0 .1, z .pre .1 .1 .0 .2, z .pre .1 .1 .0 .3), (e, r)))
 
 add-v : tie.Need-add-v Inv-loop μ-loop
 add-v c = search needs
@@ -68,7 +68,7 @@ loop-again : tie.Need-loop-again Inv-loop μ-loop
 loop-again c =
     let q = c .before .before .before in
     let l = q .before in
-    let a = l .before .before .before .before .before .before .before .before .args in
+    let a = l .before .before .before .before .before .before .before .before .before .args in
     let all : List Entry = row-in (a .numbers .now) (a .times .now) (a .places .now) (a .n) 0 in
     let some : List Bound = later-bounds (entry-in (a .numbers .now) (a .times .now) (a .places .now) (l .loop .v)) 0 all in
     let rest : List Bound = row-from all (row-in (a .numbers .now) (a .times .now) (a .places .now) (a .n - (l .loop .v + 1)) (l .loop .v + 1)) in
@@ -93,7 +93,7 @@ same-length-2 c = search needs
 returns : tie.Need-returns Inv-loop μ-loop
 returns c =
     let l = c .before in
-    let a = l .before .before .before .before .before .before .before .before .args in
+    let a = l .before .before .before .before .before .before .before .before .before .args in
     let all : List Entry = row-in (a .numbers .now) (a .times .now) (a .places .now) (a .n) 0 in
     let (k, (e, r)) = written-all (row-bounds all) 0 (a .ends .now) (a .ranges .now) (row-from all (row-in (a .numbers .now) (a .times .now) (a .places .now) (a .n - l .loop .v) (l .loop .v))) (l .loop .k) (l .loop .ends) (l .loop .ranges) (l .loop .inv .1)
     (row-none (a .numbers .now) (a .times .now) (a .places .now) all (a .n) (l .loop .v) (c .loop-test .left)) in
