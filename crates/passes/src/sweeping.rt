@@ -108,24 +108,25 @@ fn raise_unless_allowed(
     true
 }
 
-// One sweep; returns the place of the last bound that was not allowed, or their number where all were.
+// One sweep over the first `count` of the bounds; returns the place of the last that was not allowed, or their number where all were.
 fn sweep(
     ends: &[u16],
     ranges: &[u64],
     bounds: usize,
+    count: usize,
     values: &mut [i64],
     parents: &mut [u16],
 ) -> usize
-    requires { ⌜ (bounds ≤ 12288) × (2 * bounds ≤ length (now ends)) × (2 * bounds ≤ length (now ranges)) ⌝ }
+    requires { ⌜ (bounds ≤ 12288) × (2 * bounds ≤ length (now ends)) × (2 * bounds ≤ length (now ranges)) × (count ≤ bounds) ⌝ }
     requires { ⌜ (bounds-fit (length (now values)) (bounds-in bounds (now ends) (now ranges)) ≡ true) × (length (now parents) ≡ length (now values)) × InRange (now values) ⌝ }
     requires { ⌜ Coded (bounds-in bounds (now ends) (now ranges)) (now parents) × (length (now values) ≤ 4096) ⌝ }
-    ensures place { λ r. ⌜ r ≤ bounds ⌝ }
+    ensures place { λ r. ⌜ r ≤ count ⌝ }
     ensures range { λ _. ⌜ InRange (now (values .exit)) ⌝ }
     ensures coded { λ _. ⌜ Coded (bounds-in bounds (now (ends .entry)) (now (ranges .entry))) (now (parents .exit)) ⌝ }
 {
-    let mut last = bounds;
+    let mut last = count;
     let mut i = 0;
-    while i < bounds {
+    while i < count {
         if raise_unless_allowed(ends, ranges, i, values, parents) {
             last = i;
         }
@@ -134,15 +135,18 @@ fn sweep(
     last
 }
 
-// Sweeps until one finds every bound allowed, 64 at most; returns an event that the last of them may have raised.
+// Sweeps over the first `count` of the bounds until one finds each of them allowed, `most` at most; returns an event that the last of them may
+// have raised.
 pub(crate) fn sweeps(
     ends: &[u16],
     ranges: &[u64],
     bounds: usize,
+    count: usize,
+    most: usize,
     values: &mut [i64],
     parents: &mut [u16],
 ) -> usize
-    requires { ⌜ (bounds ≤ 12288) × (2 * bounds ≤ length (now ends)) × (2 * bounds ≤ length (now ranges)) ⌝ }
+    requires { ⌜ (bounds ≤ 12288) × (2 * bounds ≤ length (now ends)) × (2 * bounds ≤ length (now ranges)) × (count ≤ bounds) ⌝ }
     requires { ⌜ (bounds-fit (length (now values)) (bounds-in bounds (now ends) (now ranges)) ≡ true) × (length (now parents) ≡ length (now values)) × InRange (now values) ⌝ }
     requires { ⌜ Coded (bounds-in bounds (now ends) (now ranges)) (now parents) × (1 ≤ length (now values)) × (length (now values) ≤ 4096) ⌝ }
     ensures event { λ r. ⌜ r < length (now (values .entry)) ⌝ }
@@ -150,10 +154,10 @@ pub(crate) fn sweeps(
     ensures coded { λ _. ⌜ Coded (bounds-in bounds (now (ends .entry)) (now (ranges .entry))) (now (parents .exit)) ⌝ }
 {
     let mut event = 0;
-    let mut k: usize = 0;
-    while k < 64 {
-        let last = sweep(ends, ranges, bounds, values, parents);
-        if last == bounds {
+    let mut k = 0;
+    while k < most {
+        let last = sweep(ends, ranges, bounds, count, values, parents);
+        if last == count {
             return event;
         }
         event = ends[2 * last + 1] as usize;

@@ -1,6 +1,6 @@
 -- `passes::sweeping::sweep` meets its contract: each bound in its turn keeps what sweeps keep.
 -- Assumes nothing.
-use Prim.Native.Nat.{_-_, _≤_}
+use Prim.Native.Nat.{_-_, _≤_, _<_}
 use native.Mathlib.Omega.{arith}
 use mathlib.Core.Path.{refl, sym, _∙_}
 use mathlib.Core.Logic.{⊎-elim}
@@ -10,10 +10,10 @@ use Rattle.passes.proofs.sweeping.sweep.Statement.{statement}
 use Rattle.passes.proofs.sweeping.sweep.Tie as tie
 
 abbrev Inv-loop : tie.InvT-loop
-Inv-loop ends ranges bounds values₀ parents₀ last₀ i₀ values parents last i = Kept bounds (length values₀) ends ranges values parents × (i ≤ bounds) × (last ≤ bounds)
+Inv-loop ends ranges bounds count values₀ parents₀ last₀ i₀ values parents last i = Kept bounds (length values₀) ends ranges values parents × (i ≤ count) × (last ≤ count)
 
 abbrev μ-loop : tie.MeasureT-loop
-μ-loop ends ranges bounds values₀ parents₀ last₀ i₀ values parents last i = bounds - i
+μ-loop ends ranges bounds count values₀ parents₀ last₀ i₀ values parents last i = count - i
 
 loop-holds : tie.Need-loop-holds Inv-loop μ-loop
 loop-holds c =
@@ -28,8 +28,8 @@ raise-unless-allowed-requires c κs =
     let b = c .before .before .before .before .before .before .before in
     let a = b .args in
     let l = c .before .before .before .loop in
-    let h = c .before .before .loop-test .taken in
     let p = b .pre .0 in
+    let h : l .i < a .bounds = omega (arith, c .before .before .loop-test .taken, p .3) in
     let k = l .inv .0 in (
       (omega (arith, p .0), omega (arith, p .1), omega (arith, p .2), omega (arith, k .long, b .pre .1 .1 .1)),
       (
@@ -40,7 +40,7 @@ raise-unless-allowed-requires c κs =
     )
 
 add-i : tie.Need-add-i Inv-loop μ-loop
-add-i c = omega (arith, c .before .before .before .before .before .before .before .loop-test .taken, c .before .before .before .before .before .before .before .before .before .before .before .before .pre .0 .0)
+add-i c = omega (arith, c .before .before .before .before .before .before .before .loop-test .taken, c .before .before .before .before .before .before .before .before .before .before .before .before .pre .0 .0, c .before .before .before .before .before .before .before .before .before .before .before .before .pre .0 .3)
 
 loop-less : tie.Need-loop-less Inv-loop μ-loop
 loop-less c = omega (arith, c .before .before .before .before .before .before .before .loop-test .taken)
@@ -49,12 +49,13 @@ loop-again : tie.Need-loop-again Inv-loop μ-loop
 loop-again c =
     let a = c .before .before .before .before .before .before .before .before .before .before .before .before .args in
     let l = c .before .before .before .before .before .before .before .before .loop in
-    let h = c .before .before .before .before .before .before .before .loop-test .taken in
+    let t = c .before .before .before .before .before .before .before .loop-test .taken in
+    let h : l .i < a .bounds = omega (arith, t, c .before .before .before .before .before .before .before .before .before .before .before .before .pre .0 .3) in
     let r = c .before .before .before .before .raise-unless-allowed in (
       one-raised (a .bounds) (length (a .values .now)) (a .ends .now) (a .ranges .now) (l .inv .0) (r .last .1 .1 .1 .0) (r .last .1 .1 .1 .1 .0) (l .i) h
           (r .kept .1 .1 .1 .0) (r .kept .1 .1 .1 .1 .0) (r .ensures .0) (r .ensures .1),
-      omega arith,
-      ⊎-elim (λ w. rw (w .1) (omega arith)) (λ w. rw (w .1) (l .inv .2)) (c .if1 .came),
+      omega (arith, t),
+      ⊎-elim (λ w. rw (w .1) (omega (arith, t))) (λ w. rw (w .1) (l .inv .2)) (c .if1 .came),
     )
 
 same-length : tie.Need-same-length Inv-loop μ-loop

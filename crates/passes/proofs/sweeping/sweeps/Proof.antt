@@ -1,4 +1,4 @@
--- `passes::sweeping::sweeps` meets its contract: each sweep keeps what sweeps keep, and there are no more than 64.
+-- `passes::sweeping::sweeps` meets its contract: each sweep keeps what sweeps keep, and there are no more than asked for.
 -- Assumes nothing.
 use Prim.Native.Nat.{ℕ, _+_, _-_, _*_, _≤_, _<_}
 use native.Mathlib.Nat.{eq-or-lt-of-le}
@@ -16,10 +16,10 @@ use Rattle.passes.proofs.sweeping.sweeps.Statement.{statement}
 use Rattle.passes.proofs.sweeping.sweeps.Tie as tie
 
 abbrev Inv-loop : tie.InvT-loop
-Inv-loop ends ranges bounds values₀ parents₀ event₀ k₀ values parents event k = Kept bounds (length values₀) ends ranges values parents × (event < length values₀) × (k ≤ 64)
+Inv-loop ends ranges bounds count most values₀ parents₀ event₀ k₀ values parents event k = Kept bounds (length values₀) ends ranges values parents × (event < length values₀) × (k ≤ most)
 
 abbrev μ-loop : tie.MeasureT-loop
-μ-loop ends ranges bounds values₀ parents₀ event₀ k₀ values parents event k = 64 - k
+μ-loop ends ranges bounds count most values₀ parents₀ event₀ k₀ values parents event k = most - k
 
 loop-holds : tie.Need-loop-holds Inv-loop μ-loop
 loop-holds c =
@@ -57,7 +57,7 @@ left c =
 -- the place of a bound that was not allowed
 there : (c : tie.Else1 Inv-loop μ-loop) → c .before .before .before .before .sweep .result < c .before .before .before .before .before .before .before .before .before .before .before .before .args .bounds
 there c =
-    ⊎-elim (λ e. absurd (c .if1 .left e)) (λ l. l) (eq-or-lt-of-le (c .before .before .before .before .sweep .ensures .0))
+    ⊎-elim (λ e. absurd (c .if1 .left e)) (λ l. omega (arith, l, c .before .before .before .before .before .before .before .before .before .before .before .before .pre .0 .3)) (eq-or-lt-of-le (c .before .before .before .before .sweep .ensures .0))
 
 same-length : tie.Need-same-length Inv-loop μ-loop
 same-length c = left (c .before .before .before .before) .long
