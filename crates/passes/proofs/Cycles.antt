@@ -102,7 +102,7 @@ more-fits costs g w h =
     record { sfits = omega (arith, mag-within (costs +ℤ pos g) all) }
 
 -- its cost, as the code adds it
-costs-more : (c g : ℕ) (costs costs′ adds : ℤ)
+pub costs-more : (c g : ℕ) (costs costs′ adds : ℤ)
     → (c % 2 ≡ 0 → (g ≤ 1_000_000_000_000) × (adds ≡ pos g)) → (c % 2 ≡ 1 → (1 ≤ g) × (adds ≡ negℤ (pos (g - 1)))) → g ≤ 1_000_000_000_001
     → (c % 2 ≡ 0 → costs′ ≡ costs -ℤ pos g) → (c % 2 ≡ 1 → costs′ ≡ costs +ℤ pos (g - 1))
     → (costs′ ≡ costs +ℤ negℤ adds) × Within 1_000_000_000_000 (negℤ adds)

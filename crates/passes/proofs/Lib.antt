@@ -5,6 +5,7 @@ pub mod Arcs
 pub mod BothWays
 pub mod ParentArcs
 pub mod Cycles
+pub mod Loops
 pub mod Timing
 pub mod Outcomes
 pub mod Copying

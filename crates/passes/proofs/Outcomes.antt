@@ -22,7 +22,7 @@ use Rattle.passes.specs.declared.Run.{Run}
 use Rattle.passes.specs.declared.Found.{Found}
 use Rattle.passes.specs.declared.Solved.{Solved}
 use Rattle.passes.specs.Solving.{times-of, Solves, timed, cycle}
-use Rattle.passes.specs.Marks.{low, sum-at, sums-in, parents-in, Coded, Ran, settles, raises-on, Finds, finds-times, finds-nothing, ChainFound}
+use Rattle.passes.specs.Marks.{low, sum-at, sums-in, parents-in, Coded, Ran, settles, raises-on, Finds, finds-times, finds-cycle, CycleFound, ChainFound}
 use Rattle.passes.proofs.Marks.{low-none}
 
 -- ---- how the passes end
@@ -51,12 +51,20 @@ ran-raised bs n m old codes r v q ran e = subst (λ (i : ℕ). RaisedOn bs i cod
 
 -- ---- what the fast way finds
 
-pub found-times : (bs : List Bound) (n : ℕ) (sums : List ℤ) (r : Found) (k : ℕ) → Finds bs n sums r → r ≡ Found.Settled k
-    → settled (flatMap ways bs) n ≡ some (record { passes = k; sums = sums-in sums })
-found-times bs n sums r k f e = by (subst (Finds bs n sums) e f)
-  where
-    by : Finds bs n sums (Found.Settled k) → settled (flatMap ways bs) n ≡ some (record { passes = k; sums = sums-in sums })
-    by (finds-times i q) = q
+module _ (bs : List Bound) (n : ℕ) (sums : List ℤ) (codes : List ℕ) (r : Found) (f : Finds bs n sums codes r) where
+  -- times
+  pub found-times : (k : ℕ) → r ≡ Found.Settled k → settled (flatMap ways bs) n ≡ some (record { passes = k; sums = sums-in sums })
+  found-times k e = by (subst (Finds bs n sums codes) e f)
+    where
+      by : Finds bs n sums codes (Found.Settled k) → settled (flatMap ways bs) n ≡ some (record { passes = k; sums = sums-in sums })
+      by (finds-times i q) = q
+
+  -- or a cycle
+  pub found-cycle : (x : ℕ) → r ≡ Found.Looped x → (length codes ≡ n) × Coded bs codes × CycleFound bs codes x
+  found-cycle x e = by (subst (Finds bs n sums codes) e f)
+    where
+      by : Finds bs n sums codes (Found.Looped x) → (length codes ≡ n) × Coded bs codes × CycleFound bs codes x
+      by (finds-cycle y l c g) = (l, c, g)
 
 -- ---- what is left
 

@@ -7,13 +7,13 @@ use native.Mathlib.Omega.{arith}
 use mathlib.Core.Path.{_≡_, refl, ap, ap₂, sym, _∙_, subst}
 use mathlib.Core.Logic.{_≢_, by-cases}
 use mathlib.Core.Bool.{true, cond}
-use mathlib.Core.List.{List, [], _∷_, _++_, flatMap}
+use mathlib.Core.List.{List, [], _∷_, _++_, flatMap, List·Memᴰ, List·Memᴰ·head, List·Memᴰ·tail}
 use mathlib.Core.Option.{Option, none, some}
 use lib.Dec.{eqb}
 use lib.IntN.{ℤ, pos, negℤ, negℤ-negℤ}
 use lib.ListN.{length, getD, take, length-append, List·getD-append, List·getD-eq-default, List·getD-map}
 use lib.Seq.{getD-append-add}
-use Rattle.laws.proofs.Members.{at-place}
+use Rattle.laws.proofs.Members.{to-flat, at-place}
 use Rattle.network.specs.Bounds.{Bound}
 use Rattle.network.specs.BoundArrays.{hi-number, bounds-in}
 use Rattle.walks.specs.Walks.{Arc}
@@ -65,6 +65,24 @@ backward-at bs i k h e =
     let next : suc (ways-before bs i) ≡ ways-before bs i + 1 = omega arith in
     ap (λ (p : ℕ). getD (flatMap ways bs) p no-arc) next ∙ way-at bs i h 1 one ∙ ap (λ (l : List Arc). getD l 1 no-arc) two
 
+-- both are among the arcs
+forward-among : (bs : List Bound) (i : ℕ) → i < length bs → List·Memᴰ (getD (flatMap ways bs) (ways-before bs i) no-arc) (flatMap ways bs)
+unfolding ways
+forward-among bs i h =
+    let b : Bound = getD bs i no-bound in
+    subst (λ (a : Arc). List·Memᴰ a (flatMap ways bs)) (sym (forward-at bs i h))
+    (to-flat ways bs b (forward b) (at-place bs i no-bound h) (List·Memᴰ·head refl))
+
+backward-among : (bs : List Bound) (i k : ℕ) → i < length bs → getD bs i no-bound .hi ≡ some k
+    → List·Memᴰ (getD (flatMap ways bs) (suc (ways-before bs i)) no-arc) (flatMap ways bs)
+unfolding ways backward
+backward-among bs i k h e =
+    let b : Bound = getD bs i no-bound in
+    let a : Arc = record { from = b .to; to = b .from; adds = negℤ (pos k) } in
+    subst (λ (z : Arc). List·Memᴰ z (flatMap ways bs)) (sym (backward-at bs i k h e))
+    (to-flat ways bs b a (at-place bs i no-bound h)
+    (List·Memᴰ·tail (subst (λ (o : Option ℕ). List·Memᴰ a (backward b o)) (sym e) (List·Memᴰ·head refl))))
+
 -- ---- the parent of an event
 
 -- the direction in which a chain follows the bound of the code c + 1: the other one
@@ -89,6 +107,8 @@ module _ (m n : ℕ) (ends ranges codes : List ℕ) (x : ℕ) where
     pub place : ℕ
     pub place-is : getD (parents-in (bounds-in m ends ranges) codes) x none ≡ some place
     pub begins : getD ends c 0 ≡ (getD (flatMap ways (bounds-in m ends ranges)) place no-arc) .from
+    pub ends-at : getD ends (2 * (c / 2) + (1 - c % 2)) 0 ≡ (getD (flatMap ways (bounds-in m ends ranges)) place no-arc) .to
+    pub of-arcs : List·Memᴰ (getD (flatMap ways (bounds-in m ends ranges)) place no-arc) (flatMap ways (bounds-in m ends ranges))
     pub to-below : getD ends (2 * (c / 2) + 1) 0 < n
     pub its-leg : leg (getD (bounds-in m ends ranges) (c / 2) no-bound) (direction-of c) ≡ some (mirror (getD (flatMap ways (bounds-in m ends ranges)) place no-arc))
     pub small : getD ranges c 0 ≤ 1_000_000_000_001
@@ -115,12 +135,15 @@ module _ (m n : ℕ) (ends ranges codes : List ℕ) (x : ℕ) where
         let a : getD (flatMap ways bs) (ways-before bs i) no-arc ≡ forward (bound-at i ends ranges) = forward-at bs i l ∙ ap forward b in
         let d : 2 * i / 2 ≡ i = omega arith in
         let r : 2 * i % 2 ≡ 0 = omega arith in
+        let t : 2 * (2 * i / 2) + (1 - 2 * i % 2) ≡ 2 * i + 1 = omega arith in
         record {
           code-is = e ∙ add-one (2 * i);
           within = omega arith;
           place = ways-before bs i;
           place-is = place-of ∙ ap (arc-place bs) e ∙ forward-place bs i;
           begins = sym (ap (λ (y : Arc). y .from) a);
+          ends-at = ap (λ (j : ℕ). getD ends j 0) t ∙ sym (ap (λ (y : Arc). y .to) a);
+          of-arcs = forward-among bs i l;
           to-below = subst (λ (j : ℕ). getD ends (2 * j + 1) 0 < n) (sym d) (fits-at i h .to-in);
           its-leg =
               ap₂ leg (ap (λ (j : ℕ). getD bs j no-bound) d ∙ b) (ap (λ (j : ℕ). cond (eqb j 0) back onward) r)
@@ -144,6 +167,7 @@ module _ (m n : ℕ) (ends ranges codes : List ℕ) (x : ℕ) where
         in
         let d : (2 * i + 1) / 2 ≡ i = omega arith in
         let r : (2 * i + 1) % 2 ≡ 1 = omega arith in
+        let t : 2 * ((2 * i + 1) / 2) + (1 - (2 * i + 1) % 2) ≡ 2 * i = omega arith in
         let c : 2 * i + 2 ≡ suc (2 * i + 1) = omega arith in
         let w : k ≡ getD ranges (2 * i + 1) 0 - 1 = omega arith in
         record {
@@ -152,6 +176,8 @@ module _ (m n : ℕ) (ends ranges codes : List ℕ) (x : ℕ) where
           place = suc (ways-before bs i);
           place-is = place-of ∙ ap (arc-place bs) e ∙ backward-place bs i;
           begins = sym (ap (λ (y : Arc). y .from) a);
+          ends-at = ap (λ (j : ℕ). getD ends j 0) t ∙ sym (ap (λ (y : Arc). y .to) a);
+          of-arcs = backward-among bs i k l hi;
           to-below = subst (λ (j : ℕ). getD ends (2 * j + 1) 0 < n) (sym d) (fits-at i h .to-in);
           its-leg =
               ap₂ leg (ap (λ (j : ℕ). getD bs j no-bound) d ∙ b) (ap (λ (j : ℕ). cond (eqb j 0) back onward) r)
@@ -163,19 +189,23 @@ module _ (m n : ℕ) (ends ranges codes : List ℕ) (x : ℕ) where
           upper = λ q. (omega arith, ap (λ (y : Arc). y .adds) a ∙ ap (λ (j : ℕ). negℤ (pos j)) w);
         }
 
-    -- an event whose parent is not missing has one
-    pub parent : Coded bs codes → getD (parents-in bs codes) x none ≢ none → Parent (getD codes x 0 - 1)
-    unfolding arc-place
-    parent coded h = by (coded x)
+    -- a code that is not 0 is of a parent
+    pub coded-parent : Coded bs codes → getD codes x 0 ≢ 0 → Parent (getD codes x 0 - 1)
+    coded-parent coded h = by (coded x)
       where
         by : Code bs (getD codes x 0) → Parent (getD codes x 0 - 1)
-        by (of-none e) = absurd (h (place-of ∙ ap (arc-place bs) e))
+        by (of-none e) = absurd (h e)
         by (of-forward i l e) =
             let c : 2 * i ≡ getD codes x 0 - 1 = omega arith in
             subst Parent c (forward-parent i (omega (arith, bounds-length m ends ranges)) e)
         by (of-backward i k l hi e) =
             let c : 2 * i + 1 ≡ getD codes x 0 - 1 = omega arith in
             subst Parent c (backward-parent i k (omega (arith, bounds-length m ends ranges)) hi e)
+
+    -- an event whose parent is not missing has one
+    pub parent : Coded bs codes → getD (parents-in bs codes) x none ≢ none → Parent (getD codes x 0 - 1)
+    unfolding arc-place
+    parent coded h = coded-parent coded (λ e. h (place-of ∙ ap (arc-place bs) e))
 
 -- ---- steps back
 
@@ -187,7 +217,7 @@ module _ (arcs : List Arc) (n : ℕ) (ps : Parents) (some-event : 0 < n) (betwee
       (λ h. between (getD arcs i no-arc) (at-place arcs i no-arc h) .0)
       (λ h. subst (λ (a : Arc). a .from < n) (sym (List·getD-eq-default arcs no-arc (omega arith))) some-event)
 
-  before-below : (u : ℕ) → u < n → before arcs ps u < n
+  pub before-below : (u : ℕ) → u < n → before arcs ps u < n
   unfolding before
   before-below u h = by (getD ps u none)
     where

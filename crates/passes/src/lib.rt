@@ -32,9 +32,10 @@ enum Run {
     Raised(usize),
 }
 
-// What the fast way comes to: times after so many passes, or nothing that is believed.
+// What the fast way comes to: times after so many passes, an event on a cycle that gains, or nothing that is believed.
 enum Found {
     Settled(usize),
+    Looped(usize),
     Nothing,
 }
 
@@ -216,8 +217,37 @@ fn by_passes(
     )
 }
 
-// The fast way: values found by sweeps, and believed where they are a certificate.
-fn quick(
+// The lesser of two numbers.
+fn least(a: usize, b: usize) -> usize
+    ensures { λ r. ⌜ r ≤ b ⌝ }
+{
+    if a < b {
+        return a;
+    }
+    b
+}
+
+// Sweeps for times. What a log adds leads from the start alone, so that after the first sweep those of the plan's own are enough.
+fn sweep_for_times(
+    ends: &[u16],
+    ranges: &[u64],
+    own: usize,
+    bounds: usize,
+    values: &mut [i64],
+    parents: &mut [u16],
+)
+    requires { ⌜ network-fits bounds (length (now values)) (now ends) (now ranges) ≡ true ⌝ }
+    requires { ⌜ (length (now parents) ≡ length (now values)) × InRange (now values) × Coded (bounds-in bounds (now ends) (now ranges)) (now parents) ⌝ }
+    ensures range { λ _. ⌜ InRange (now (values .exit)) ⌝ }
+    ensures coded { λ _. ⌜ Coded (bounds-in bounds (now (ends .entry)) (now (ranges .entry))) (now (parents .exit)) ⌝ }
+{
+    sweeping::sweeps(ends, ranges, bounds, bounds, 1, values, parents);
+    let count = least(own, bounds);
+    sweeping::sweeps(ends, ranges, bounds, count, 32, values, parents);
+}
+
+// Sweeps for a cycle, over all bounds, and looks for one behind an event that the last of them may have raised.
+fn sweep_for_cycle(
     ends: &[u16],
     ranges: &[u64],
     bounds: usize,
@@ -226,13 +256,34 @@ fn quick(
 ) -> Found
     requires { ⌜ network-fits bounds (length (now values)) (now ends) (now ranges) ≡ true ⌝ }
     requires { ⌜ (length (now parents) ≡ length (now values)) × InRange (now values) × Coded (bounds-in bounds (now ends) (now ranges)) (now parents) ⌝ }
-    ensures { λ r. ⌜ Finds (bounds-in bounds (now (ends .entry)) (now (ranges .entry))) (length (now (values .entry))) (now (values .exit)) r ⌝ }
+    ensures { λ r. ⌜ Finds (bounds-in bounds (now (ends .entry)) (now (ranges .entry))) (length (now (values .entry))) (now (values .exit)) (now (parents .exit)) r ⌝ }
 {
-    sweeping::sweeps(ends, ranges, bounds, values, parents);
+    let event = sweeping::sweeps(ends, ranges, bounds, bounds, 32, values, parents);
+    let at = links::find_cycle(ends, ranges, bounds, parents, event);
+    if at < parents.len() {
+        return Found::Looped(at);
+    }
+    Found::Nothing
+}
+
+// The fast way: values found by sweeps, and believed where they are a certificate; or a cycle, believed where it is one.
+fn quick(
+    ends: &[u16],
+    ranges: &[u64],
+    own: usize,
+    bounds: usize,
+    values: &mut [i64],
+    parents: &mut [u16],
+) -> Found
+    requires { ⌜ network-fits bounds (length (now values)) (now ends) (now ranges) ≡ true ⌝ }
+    requires { ⌜ (length (now parents) ≡ length (now values)) × InRange (now values) × Coded (bounds-in bounds (now ends) (now ranges)) (now parents) ⌝ }
+    ensures { λ r. ⌜ Finds (bounds-in bounds (now (ends .entry)) (now (ranges .entry))) (length (now (values .entry))) (now (values .exit)) (now (parents .exit)) r ⌝ }
+{
+    sweep_for_times(ends, ranges, own, bounds, values, parents);
     if certificate::is_certificate(ends, ranges, bounds, values) {
         return Found::Settled(certificate::round(values));
     }
-    Found::Nothing
+    sweep_for_cycle(ends, ranges, bounds, values, parents)
 }
 
 // The fast way, and where nothing comes of it the passes.
@@ -255,11 +306,18 @@ fn search(
         r
         (record { times = now (times .exit); chain-bounds = now (numbers .exit); chain-directions = now (directions .exit) }) ⌝ }
 {
-    let x = quick(ends, ranges, bounds, values, parents);
+    let x = quick(ends, ranges, own, bounds, values, parents);
     match x {
         Found::Settled(k) => {
             write_times(values, times);
             Solved::Times { passes: k }
+        }
+        Found::Looped(at) => {
+            let c = links::write_chain(ends, ranges, bounds, own, parents, at, numbers, directions);
+            Solved::Cycle {
+                length: c.length,
+                cost: c.cost,
+            }
         }
         Found::Nothing => by_passes(
             ends,

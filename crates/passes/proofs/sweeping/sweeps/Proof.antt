@@ -48,11 +48,11 @@ sweep-requires c κs =
 -- what a sweep leaves
 left : (c : tie.After-sweep Inv-loop μ-loop)
     → let a = c .before .before .before .before .before .before .before .before .args in
-    Kept (a .bounds) (length (a .values .now)) (a .ends .now) (a .ranges .now) (c .sweep .last .1 .1 .1 .0) (c .sweep .last .1 .1 .1 .1 .0)
+    Kept (a .bounds) (length (a .values .now)) (a .ends .now) (a .ranges .now) (c .sweep .last .1 .1 .1 .1 .0) (c .sweep .last .1 .1 .1 .1 .1 .0)
 left c =
     let k = c .before .before .before .before .loop .inv .0 in
     let r = c .sweep in
-    record { long = r .kept .1 .1 .1 .0 ∙ k .long; parents-long = r .kept .1 .1 .1 .1 .0 ∙ k .parents-long; range = r .ensures .1 .0; coded = r .ensures .1 .1 }
+    record { long = r .kept .1 .1 .1 .1 .0 ∙ k .long; parents-long = r .kept .1 .1 .1 .1 .1 .0 ∙ k .parents-long; range = r .ensures .1 .0; coded = r .ensures .1 .1 }
 
 -- the place of a bound that was not allowed
 there : (c : tie.Else1 Inv-loop μ-loop) → c .before .before .before .before .sweep .result < c .before .before .before .before .before .before .before .before .before .before .before .before .args .bounds
