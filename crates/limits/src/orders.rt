@@ -91,8 +91,7 @@ fn put_later(
     requires { ⌜ (length (now numbers) ≡ 1408) × (length (now times) ≡ 1408) × (length (now places) ≡ 1408) × (length (now heads) ≡ 1024) × (length (now nexts) ≡ 1408) × (length (now skips) ≡ 1408) × Grouped (now numbers) (now places) (now heads) (now nexts) (now skips) n ⌝ }
     requires { ⌜ (2 * (k + length (bounds-from (now numbers) (now times) (now places) n v)) ≤ length (now ends)) × (2 * (k + length (bounds-from (now numbers) (now times) (now places) n v)) ≤ length (now ranges)) ⌝ }
     ensures { λ r. ⌜ r ≡ k + length (bounds-from (now (numbers .entry)) (now (times .entry)) (now (places .entry)) n v) ⌝ }
-    ensures { λ _. ⌜ now (ends .exit) ≡ sets (now (ends .entry)) (2 * k) (flatMap bound-ends (bounds-from (now (numbers .entry)) (now (times .entry)) (now (places .entry)) n v)) ⌝ }
-    ensures { λ _. ⌜ now (ranges .exit) ≡ sets (now (ranges .entry)) (2 * k) (flatMap bound-range (bounds-from (now (numbers .entry)) (now (times .entry)) (now (places .entry)) n v)) ⌝ }
+    ensures { λ _. ⌜ (now (ends .exit) ≡ sets (now (ends .entry)) (2 * k) (flatMap bound-ends (bounds-from (now (numbers .entry)) (now (times .entry)) (now (places .entry)) n v))) × (now (ranges .exit) ≡ sets (now (ranges .entry)) (2 * k) (flatMap bound-range (bounds-from (now (numbers .entry)) (now (times .entry)) (now (places .entry)) n v))) ⌝ }
 {
     let j = numbers[v];
     let t = times[v];
@@ -128,13 +127,10 @@ fn put_orders(
     ranges: &mut [u64],
 ) -> usize
     requires { ⌜ (n ≤ 1408) × ((u : ℕ) → u < n → getD (now numbers) u 0 ≤ u + 1) ⌝ }
-    requires { ⌜ (length (now numbers) ≡ 1408) × (length (now times) ≡ 1408) × (length (now places) ≡ 1408) ⌝ }
-    requires { ⌜ (length (now heads) ≡ 1024) × (length (now nexts) ≡ 1408) × (length (now skips) ≡ 1408) × Grouped (now numbers) (now places) (now heads) (now nexts) (now skips) n ⌝ }
-    requires { ⌜ 2 * length (row-bounds (row-in (now numbers) (now times) (now places) n 0)) ≤ length (now ends) ⌝ }
-    requires { ⌜ 2 * length (row-bounds (row-in (now numbers) (now times) (now places) n 0)) ≤ length (now ranges) ⌝ }
+    requires { ⌜ (length (now numbers) ≡ 1408) × (length (now times) ≡ 1408) × (length (now places) ≡ 1408) × (length (now heads) ≡ 1024) × (length (now nexts) ≡ 1408) × (length (now skips) ≡ 1408) × Grouped (now numbers) (now places) (now heads) (now nexts) (now skips) n ⌝ }
+    requires { ⌜ (2 * length (row-bounds (row-in (now numbers) (now times) (now places) n 0)) ≤ length (now ends)) × (2 * length (row-bounds (row-in (now numbers) (now times) (now places) n 0)) ≤ length (now ranges)) ⌝ }
     ensures { λ r. ⌜ r ≡ length (row-bounds (row-in (now (numbers .entry)) (now (times .entry)) (now (places .entry)) n 0)) ⌝ }
-    ensures { λ _. ⌜ now (ends .exit) ≡ sets (now (ends .entry)) 0 (flatMap bound-ends (row-bounds (row-in (now (numbers .entry)) (now (times .entry)) (now (places .entry)) n 0))) ⌝ }
-    ensures { λ _. ⌜ now (ranges .exit) ≡ sets (now (ranges .entry)) 0 (flatMap bound-range (row-bounds (row-in (now (numbers .entry)) (now (times .entry)) (now (places .entry)) n 0))) ⌝ }
+    ensures { λ _. ⌜ (now (ends .exit) ≡ sets (now (ends .entry)) 0 (flatMap bound-ends (row-bounds (row-in (now (numbers .entry)) (now (times .entry)) (now (places .entry)) n 0)))) × (now (ranges .exit) ≡ sets (now (ranges .entry)) 0 (flatMap bound-range (row-bounds (row-in (now (numbers .entry)) (now (times .entry)) (now (places .entry)) n 0)))) ⌝ }
 {
     let mut k: usize = 0;
     let mut v: usize = 0;

@@ -83,7 +83,18 @@ put-orders-requires c κs =
     let a = z .args in
     let same : length (row-bounds (row-in (p .put-all .last .1 .1 .1 .0) (p .put-all .last .1 .1 .1 .1 .0) (p .put-all .last .1 .1 .1 .1 .1 .0) (p .put-all .result) 0)) ≡ length (order-bounds (routes-of (of-paths (paths-in (a .carts) (a .steps) (a .cells .now))))) = ap (λ (bs : List Bound). length bs) (row-is (p .put-all .last .1 .1 .1 .0) (p .put-all .last .1 .1 .1 .1 .0) (p .put-all .last .1 .1 .1 .1 .1 .0) (p .put-all .result) (a .carts) (a .steps) (a .cells .now) (z .pre .0 .1) (z .pre .0 .3) (p .put-all .ensures .1)) in (
       (omega arith, numbers-low (p .put-all .last .1 .1 .1 .0) (p .put-all .last .1 .1 .1 .1 .0) (p .put-all .last .1 .1 .1 .1 .1 .0) (p .put-all .result) (a .carts) (a .steps) (a .cells .now) (z .pre .0 .1) (z .pre .0 .3) (p .put-all .ensures .1)),
-      ((sym (slice-aggregate-put-orders (c .before .before .before .before .before .before .before)), sym (slice-aggregate-put-orders-2 (c .before .before .before .before .before .before)), sym (slice-aggregate-put-orders-3 (c .before .before .before .before .before))), ((sym (slice-aggregate-put-orders-4 (c .before .before .before .before)), sym (slice-aggregate-put-orders-5 (c .before .before .before)), sym (slice-aggregate-put-orders-6 (c .before .before)), record { linked = k .link .ensures; skipped = g .put-skips .ensures }), (omega (arith, z .pre .1 .1 .0), omega (arith, z .pre .1 .1 .1)))),
+      (
+        (
+          sym (slice-aggregate-put-orders (c .before .before .before .before .before .before .before)),
+          sym (slice-aggregate-put-orders-2 (c .before .before .before .before .before .before)),
+          sym (slice-aggregate-put-orders-3 (c .before .before .before .before .before)),
+          sym (slice-aggregate-put-orders-4 (c .before .before .before .before)),
+          sym (slice-aggregate-put-orders-5 (c .before .before .before)),
+          sym (slice-aggregate-put-orders-6 (c .before .before)),
+          record { linked = k .link .ensures; skipped = g .put-skips .ensures },
+        ),
+        (omega (arith, z .pre .1 .1 .0), omega (arith, z .pre .1 .1 .1)),
+      ),
     )
 
 same-length : tie.Need-same-length
