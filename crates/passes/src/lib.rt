@@ -2,6 +2,7 @@
 // to, and its lo and one more than its hi, 0 where hi is none. What is answered and written is defined in specs/.
 mod certificate;
 mod links;
+mod looping;
 mod passing;
 mod sweeping;
 mod weights;
@@ -259,7 +260,7 @@ fn sweep_for_cycle(
     ensures { λ r. ⌜ Finds (bounds-in bounds (now (ends .entry)) (now (ranges .entry))) (length (now (values .entry))) (now (values .exit)) (now (parents .exit)) r ⌝ }
 {
     let event = sweeping::sweeps(ends, ranges, bounds, bounds, 32, values, parents);
-    let at = links::find_cycle(ends, ranges, bounds, parents, event);
+    let at = looping::find_cycle(ends, ranges, bounds, parents, event);
     if at < parents.len() {
         return Found::Looped(at);
     }

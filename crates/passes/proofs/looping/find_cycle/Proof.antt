@@ -1,11 +1,11 @@
--- `passes::links::find_cycle` meets its contract: an event is returned where every check has passed.
+-- `passes::looping::find_cycle` meets its contract: an event is returned where every check has passed.
 -- Assumes nothing.
 use native.Mathlib.Omega.{arith}
 use borrow.Author.Tests.{not-false}
 use borrow.Author.Needs.{needs}
 use Rattle.passes.proofs.Loops.{led-from, cycle-found}
-use Rattle.passes.proofs.links.find_cycle.Statement.{statement}
-use Rattle.passes.proofs.links.find_cycle.Tie as tie
+use Rattle.passes.proofs.looping.find_cycle.Statement.{statement}
+use Rattle.passes.proofs.looping.find_cycle.Tie as tie
 
 led-back-requires : tie.Need-led-back-requires
 led-back-requires c κs = search needs

@@ -1,10 +1,10 @@
--- `passes::links::arc_end` meets its contract: the other end of the bound is read.
+-- `passes::looping::arc_end` meets its contract: the other end of the bound is read.
 -- Assumes nothing.
 use Prim.Native.Nat.{_+_, _-_, _*_, _/_, _%_}
 use native.Mathlib.Omega.{arith}
 use borrow.Author.Needs.{needs}
-use Rattle.passes.proofs.links.arc_end.Statement.{statement}
-use Rattle.passes.proofs.links.arc_end.Tie as tie
+use Rattle.passes.proofs.looping.arc_end.Statement.{statement}
+use Rattle.passes.proofs.looping.arc_end.Tie as tie
 
 mul-result : tie.Need-mul-result
 mul-result c = search needs

@@ -1,11 +1,11 @@
--- `passes::links::from_start` meets its contract: a bound that is found goes from the start.
+-- `passes::looping::from_start` meets its contract: a bound that is found goes from the start.
 -- Assumes nothing.
 use Prim.Native.Nat.{_+_, _-_, _*_, _≤_}
 use native.Mathlib.Omega.{arith}
 use mathlib.Core.Logic.{inl, inr}
 use Rattle.passes.proofs.Checks.{failed}
-use Rattle.passes.proofs.links.from_start.Statement.{statement}
-use Rattle.passes.proofs.links.from_start.Tie as tie
+use Rattle.passes.proofs.looping.from_start.Statement.{statement}
+use Rattle.passes.proofs.looping.from_start.Tie as tie
 
 abbrev Inv-loop : tie.InvT-loop
 Inv-loop ends bounds x i₀ i = i ≤ bounds

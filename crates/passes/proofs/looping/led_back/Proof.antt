@@ -1,4 +1,4 @@
--- `passes::links::led_back` meets its contract: each event on the way is led, or nothing is said.
+-- `passes::looping::led_back` meets its contract: each event on the way is led, or nothing is said.
 -- Assumes nothing.
 use Prim.Native.Nat.{ℕ, _-_, _*_, _≤_, _<_}
 use native.Mathlib.Numerals.{add-one}
@@ -13,8 +13,8 @@ use Rattle.passes.specs.Marks.{parents-in, Led}
 use Rattle.passes.proofs.ParentArcs.{Parent, coded-parent}
 use Rattle.passes.proofs.Cycles.{step-back, back-below}
 use Rattle.passes.proofs.Loops.{led-here, led-more}
-use Rattle.passes.proofs.links.led_back.Statement.{statement}
-use Rattle.passes.proofs.links.led_back.Tie as tie
+use Rattle.passes.proofs.looping.led_back.Statement.{statement}
+use Rattle.passes.proofs.looping.led_back.Tie as tie
 
 abbrev Inv-loop : tie.InvT-loop
 Inv-loop ends ranges bounds parents v x₀ j₀ x j =

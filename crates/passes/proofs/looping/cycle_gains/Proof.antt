@@ -1,4 +1,4 @@
--- `passes::links::cycle_gains` meets its contract: each turn goes one step round, and back at the first event the cost decides.
+-- `passes::looping::cycle_gains` meets its contract: each turn goes one step round, and back at the first event the cost decides.
 -- Assumes nothing.
 use Prim.Native.Nat.{ℕ, _+_, _-_, _*_, _<_}
 use native.Mathlib.Omega.{arith}
@@ -14,8 +14,8 @@ use Rattle.laws.proofs.Signed.{Within, mag-within}
 use Rattle.passes.proofs.ParentArcs.{Parent}
 use Rattle.passes.proofs.Checks.{failed}
 use Rattle.passes.proofs.Loops.{Round, no-step, round-below, round-parent, round-more, round-gains}
-use Rattle.passes.proofs.links.cycle_gains.Statement.{statement}
-use Rattle.passes.proofs.links.cycle_gains.Tie as tie
+use Rattle.passes.proofs.looping.cycle_gains.Statement.{statement}
+use Rattle.passes.proofs.looping.cycle_gains.Tie as tie
 
 abbrev Inv-loop : tie.InvT-loop
 Inv-loop ends ranges bounds parents start x₀ cost₀ j₀ x cost j =
