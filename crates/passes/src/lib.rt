@@ -244,7 +244,7 @@ fn sweep_for_times(
 {
     sweeping::sweeps(ends, ranges, bounds, bounds, 1, values, parents);
     let count = least(own, bounds);
-    sweeping::sweeps(ends, ranges, bounds, count, 32, values, parents);
+    sweeping::sweeps(ends, ranges, bounds, count, 64, values, parents);
 }
 
 // Sweeps for a cycle, over all bounds, and looks for one behind an event that the last of them may have raised.
