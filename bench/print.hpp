@@ -39,11 +39,11 @@ inline void print_table(const std::string &title, const std::vector<Cells> &rows
 
 inline void print_times(const std::string &title, const std::vector<Row> &rows) {
     std::vector<Cells> all{
-        {"plan", "events", "bounds", "passes", "whole", "judging", "engine", "LEMON", "Boost", "engine/LEMON", "engine/Boost", "whole/Boost"}};
+        {"plan", "events", "bounds", "passes", "whole", "judging", "engine", "LEMON", "Boost", "LEMON/engine", "engine/Boost", "whole/Boost"}};
     for (const Row &row : rows) {
         const Times &t = row.times;
         all.push_back({row.name, count(row.events), count(row.bounds), count(row.passes), duration(t.whole), duration(t.judging), duration(t.engine()),
-                       duration(t.lemon), duration(t.boost), ratio("engine", t.engine(), "LEMON", t.lemon), ratio("engine", t.engine(), "Boost", t.boost),
+                       duration(t.lemon), duration(t.boost), ratio("LEMON", t.lemon, "engine", t.engine()), ratio("engine", t.engine(), "Boost", t.boost),
                        ratio("whole", t.whole, "Boost", t.boost)});
     }
     print_table(title, all);
