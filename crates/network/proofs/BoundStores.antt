@@ -1,19 +1,15 @@
 -- Bounds stored in an array, one after the other: two numbers each. Assumes nothing.
-use Prim.Native.Nat.{ℕ, suc, _+_, _*_, _/_, _≤_, _<_}
-use native.Mathlib.Nat.{add-zero, le-div-iff-mul-le, div-lt-iff-lt-mul}
+use Prim.Native.Nat.{ℕ, zero, suc, _+_, _*_, _≤_}
+use native.Mathlib.Nat.{add-zero}
 use native.Mathlib.Numerals.{add-one}
 use native.Mathlib.Omega.{arith}
 use mathlib.Core.Path.{_≡_, refl, ap, sym, _∙_}
-use mathlib.Core.Logic.{_⊎_, inl, inr}
-use mathlib.Core.Bool.{Bool, true, false, _&&_, cond, and-false}
 use mathlib.Core.List.{List, [], _∷_, _++_, flatMap, append-assoc, append-nil}
-use lib.ListN.{length, drop, set, length-append}
-use lib.Dec.{leb, lit<}
+use lib.ListN.{length, drop, set, length-append, length-set}
 use lib.Seq.{sets, sets-eq}
-use borrow.Author.Tests.{le-leb, lt-leb}
 use Rattle.words.specs.Words.{written}
 use Rattle.network.specs.Bounds.{Bound}
-use Rattle.network.specs.BoundArrays.{bound-ends, bound-range, has-place, with-pair}
+use Rattle.network.specs.BoundArrays.{bound-ends, bound-range}
 
 -- two numbers stored
 pub two-stored : (s : List ℕ) (i a b : ℕ) → set (set s i a) (i + 1) b ≡ sets s i (a ∷ b ∷ [])
@@ -25,6 +21,21 @@ sets-append [] ws s i = ap (λ (n : ℕ). sets s n ws) (sym (add-zero i))
 sets-append (v ∷ vs) ws s i =
     let next : suc i + length vs ≡ i + suc (length vs) = omega arith in
     sets-append vs ws (set s i v) (suc i) ∙ ap (λ (n : ℕ). sets (sets (set s i v) (suc i) vs) n ws) next
+
+-- a number stored behind the end is not
+set-past : (s : List ℕ) (i a : ℕ) → length s ≤ i → set s i a ≡ s
+set-past [] i a h = refl
+set-past (x ∷ xs) zero a h = absurd (omega arith)
+set-past (x ∷ xs) (suc i) a h = ap (λ (l : List ℕ). x ∷ l) (set-past xs i a (omega arith))
+
+-- nor are more
+pub sets-past : (vs s : List ℕ) (i : ℕ) → length s ≤ i → sets s i vs ≡ s
+sets-past [] s i h = refl
+sets-past (v ∷ vs) s i h = ap (λ (l : List ℕ). sets l (suc i) vs) (set-past s i v h) ∙ sets-past vs s (suc i) (omega arith)
+
+-- of two numbers the first alone, where there is no place for the second
+pub half-stored : (s : List ℕ) (i a b : ℕ) → length s ≤ i + 1 → set s i a ≡ sets s i (a ∷ b ∷ [])
+half-stored s i a b h = sym (sets-past (b ∷ []) (set s i a) (suc i) (omega (arith, length-set s i a)))
 
 -- what is stored from the first place on is written over the front
 pub front-stored : (vs s : List ℕ) → length vs ≤ length s → sets s (2 * 0) vs ≡ written vs s
@@ -73,44 +84,6 @@ module _ (g : Bound → List ℕ) (p : Pairs g) where
       → sets t (2 * (k + 1)) (flatMap g ys) ≡ sets s (2 * k) (flatMap g (b ∷ ys))
   unfolding flatMap
   one-stored s t k b ys q = more-stored s t k (k + 1) (b ∷ []) ys refl (q ∙ ap (λ (l : List ℕ). sets s (2 * k) l) (sym (append-nil (g b))))
-
--- ---- one bound, where there is a place for it
-
--- there is
-pub has-room : (a b k : ℕ) → k < a / 2 → k < b / 2 → has-place a b k ≡ true
-unfolding has-place
-has-room a b k h g =
-    let m : suc k * 2 ≤ a = le-div-iff-mul-le {k = 2} {x = suc k} {y = a} (lit< tt) .0 h in
-    let n : suc k * 2 ≤ b = le-div-iff-mul-le {k = 2} {x = suc k} {y = b} (lit< tt) .0 g in
-    ap (λ (t : Bool). t && leb (2 * k + 2) b) (le-leb (2 * k + 2) a (omega arith)) ∙ le-leb (2 * k + 2) b (omega arith)
-
--- there is not
-pub no-room : (a b k : ℕ) → (a / 2 ≤ k) ⊎ (b / 2 ≤ k) → has-place a b k ≡ false
-unfolding has-place
-no-room a b k (inl h) =
-    let m : a < suc k * 2 = div-lt-iff-lt-mul {k = 2} {x = a} {y = suc k} (lit< tt) .0 (omega arith) in
-    ap (λ (t : Bool). t && leb (2 * k + 2) b) (lt-leb (2 * k + 2) a (omega arith))
-no-room a b k (inr h) =
-    let m : b < suc k * 2 = div-lt-iff-lt-mul {k = 2} {x = b} {y = suc k} (lit< tt) .0 (omega arith) in
-    ap (λ (t : Bool). leb (2 * k + 2) a && t) (lt-leb (2 * k + 2) b (omega arith)) ∙ and-false (leb (2 * k + 2) a)
-
--- what is put where there is a place
-pub pair-put : (t : Bool) (s l : List ℕ) (k a b : ℕ) → t ≡ true → l ≡ set (set s (2 * k) a) (2 * k + 1) b → l ≡ with-pair t s k (a ∷ b ∷ [])
-unfolding with-pair
-pair-put t s l k a b e q = q ∙ two-stored s (2 * k) a b ∙ sym (ap (λ (x : Bool). cond x (sets s (2 * k) (a ∷ b ∷ [])) s) e)
-
--- and where there is none
-pub pair-kept : (t : Bool) (s l : List ℕ) (k : ℕ) → t ≡ false → s ≡ with-pair t s k l
-unfolding with-pair
-pair-kept t s l k e = sym (ap (λ (x : Bool). cond x (sets s (2 * k) l) s) e)
-
--- so a bound put where there is room is stored
-pub bound-stored : (ends ranges s l pair : List ℕ) (k : ℕ) → 2 * k + 2 ≤ length ends → 2 * k + 2 ≤ length ranges
-    → l ≡ with-pair (has-place (length ends) (length ranges) k) s k pair → l ≡ sets s (2 * k) pair
-unfolding with-pair has-place
-bound-stored ends ranges s l pair k h g q =
-    q ∙ ap (λ (t : Bool). cond (t && leb (2 * k + 2) (length ranges)) (sets s (2 * k) pair) s) (le-leb (2 * k + 2) (length ends) h)
-    ∙ ap (λ (t : Bool). cond t (sets s (2 * k) pair) s) (le-leb (2 * k + 2) (length ranges) g)
 
 -- none
 pub none-stored : (g : Bound → List ℕ) (s : List ℕ) (k : ℕ) (bs : List Bound) → bs ≡ [] → s ≡ sets s k (flatMap g bs)

@@ -1,12 +1,9 @@
 -- Bounds in two arrays: how the code that writes them hands them on.
 -- Assumes nothing.
-use Prim.Native.Nat.{ℕ, zero, suc, _+_, _*_}
-use mathlib.Core.Bool.{Bool, _&&_, cond}
+use Prim.Native.Nat.{ℕ, zero, suc}
 use mathlib.Core.List.{List, [], _∷_}
 use mathlib.Core.Option.{Option, none, some}
-use lib.Dec.{leb}
 use lib.ListN.{getD, drop}
-use lib.Seq.{sets}
 use Rattle.network.specs.Bounds.{Bound}
 
 -- the events that a bound goes from and to
@@ -34,15 +31,7 @@ bounds-in (suc n) ends ranges =
     record { from = getD ends 0 0; to = getD ends 1 0; lo = getD ranges 0 0; hi = hi-of (getD ranges 1 0) }
     ∷ bounds-in n (drop 2 ends) (drop 2 ranges)
 
--- whether two arrays of these lengths have a k-th place for a bound
-unfoldable pub has-place : ℕ → ℕ → ℕ → Bool
-has-place ends ranges k = leb (2 * k + 2) ends && leb (2 * k + 2) ranges
-
--- two numbers stored in the k-th place of an array, where there is one
-unfoldable pub with-pair : Bool → List ℕ → ℕ → List ℕ → List ℕ
-with-pair there s k pair = cond there (sets s (2 * k) pair) s
-
 -- Names every definition of this module, for a proof that computes with them all.
 unfoldable pub open-bound-arrays : Unit {0}
-unfolding bound-ends hi-number bound-range hi-of bounds-in has-place with-pair
+unfolding bound-ends hi-number bound-range hi-of bounds-in
 open-bound-arrays = tt
