@@ -2,11 +2,12 @@
 use Prim.Native.Nat.{ℕ, suc, _+_, _*_, _-_, _≤_, _<_}
 use native.Mathlib.Numerals.{add-one}
 use native.Mathlib.Omega.{arith}
-use mathlib.Core.Path.{_≡_, refl, ap, sym, _∙_}
+use mathlib.Core.Path.{_≡_, refl, ap, sym, _∙_, subst}
 use mathlib.Core.Bool.{Bool, true, false, true≢false, not, _&&_, cond}
 use mathlib.Core.List.{List, [], _∷_, _++_, map}
-use borrow.Author.Tests.{le-leb, lt-leb, not-true}
-use lib.Dec.{leb}
+use borrow.Author.Tests.{le-leb, lt-leb, not-true, not-false}
+use lib.Dec.{T, leb, leb→le}
+use mir.Facts.{and-yes}
 use lib.ListN.{length, take, drop, set, length-drop}
 use lib.Seq.{sets, length-take-le}
 use Rattle.words.specs.Words.{written}
@@ -16,7 +17,7 @@ use Rattle.floor.specs.Plan.{Cart, Plan}
 use Rattle.network.specs.Events.{Route, routes, routes-of, event-count, finish-event}
 use Rattle.network.proofs.BoundStores.{front-stored}
 use Rattle.limits.specs.Limits.{of-paths}
-use Rattle.limits.specs.Orders.{first-events, events-fit, firsts-fitting}
+use Rattle.limits.specs.Orders.{first-events, events-kept, events-fit, firsts-fitting}
 use Rattle.limits.specs.Counts.{total, moves}
 use Rattle.limits.proofs.RowBounds.{of-paths-carts}
 use Rattle.limits.proofs.Counts.{path-points, events-are}
@@ -105,7 +106,48 @@ pub events-counted : (n w : ℕ) (s : List ℕ) → 1 ≤ w → n * w ≤ length
 unfolding of-paths
 events-counted n w s o l = omega (arith, events-are (of-paths (paths-in n w s)) (of-paths-carts (paths-in n w s)), all-events n w s o l)
 
-module _ (n w : ℕ) (s fs : List ℕ) where
+module _ (n w : ℕ) (s : List ℕ) where
+  -- too many carts or steps, or not all cells there
+  pub events-missing : (b : Bool) → b ≡ (leb n 64 && leb w 1024 && leb (n * w) (length s)) → not b ≡ true → false ≡ events-kept n w s
+  unfolding events-kept
+  events-missing b q e =
+      sym (by (leb n 64) (leb 1 w) (leb w 1024) (leb (n * w) (length s)) (leb (event-count (of-paths (paths-in n w s))) 4096) (sym q ∙ not-true b e))
+    where
+      by : (a x c d y : Bool) → (a && c && d) ≡ false → (a && x && c && d && y) ≡ false
+      by false x c d y h = refl
+      by true false c d y h = refl
+      by true true false d y h = refl
+      by true true true false y h = refl
+      by true true true true y h = absurd (true≢false h)
+
+  -- no steps
+  pub events-steps : n ≤ 64 → w ≡ 0 → false ≡ events-kept n w s
+  unfolding events-kept
+  events-steps h e = simp (le-leb n 64 h, lt-leb 1 w (omega arith))
+
+  -- the events, by the moves counted
+  pub events-asked : n ≤ 64 → 1 ≤ w → w ≤ 1024 → n * w ≤ length s → (m : ℕ) → m ≡ total moves (paths-in n w s) → leb (2 + n + 3 * m) 4096 ≡ events-kept n w s
+  unfolding events-kept
+  events-asked h o k l m e =
+      let many : 2 + n + 3 * m ≡ event-count (of-paths (paths-in n w s)) = omega (arith, events-counted n w s o l) in
+      ap (λ (x : ℕ). leb x 4096) many ∙ simp (le-leb n 64 h, le-leb 1 w o, le-leb w 1024 k, le-leb (n * w) (length s) l)
+
+  -- paths that keep them are few enough for the code that numbers them and writes their order bounds
+  pub kept-says : (b : Bool) → b ≡ events-kept n w s → not b ≡ false
+      → ((n ≤ 64) × (1 ≤ w) × (w ≤ 1024) × (n * w ≤ length s)) × (2 + n + 3 * total moves (paths-in n w s) ≤ 4096)
+  unfolding events-kept
+  kept-says b q e =
+      let (more, events) = and-yes (leb n 64 && leb 1 w && leb w 1024 && leb (n * w) (length s)) (leb (event-count (of-paths (paths-in n w s))) 4096) (subst T (sym (not-false b e) ∙ q) tt) in
+      let (short, cells) = and-yes (leb n 64 && leb 1 w && leb w 1024) (leb (n * w) (length s)) more in
+      let (some, steps) = and-yes (leb n 64 && leb 1 w) (leb w 1024) short in
+      let (few, one) = and-yes (leb n 64) (leb 1 w) some in
+      let o : 1 ≤ w = leb→le 1 w one in
+      let l : n * w ≤ length s = leb→le (n * w) (length s) cells in (
+        (leb→le n 64 few, o, leb→le w 1024 steps, l),
+        omega (arith, leb→le (event-count (of-paths (paths-in n w s))) 4096 events, events-counted n w s o l),
+      )
+
+module _ (n w : ℕ) (s fs : List ℕ) (kept : Bool) (q : kept ≡ events-kept n w s) where
   -- this is to be answered and left
   abbrev Left : Bool → List ℕ → Type 0
   Left b fs' = (b ≡ events-fit n w s (length fs)) × (fs' ≡ written (firsts-fitting n w s (length fs)) fs)
@@ -115,44 +157,21 @@ module _ (n w : ℕ) (s fs : List ℕ) where
   unfolding firsts-fitting written
   none-fit e = (sym e, ap (λ (b : Bool). written (cond b (first-events (of-paths (paths-in n w s))) []) fs) (sym e))
 
-  -- too many carts or steps, or not all cells there
-  pub firsts-missing : (b : Bool) → b ≡ (leb n 64 && leb w 1024 && leb (n * w) (length s)) → not b ≡ true → Left false fs
+  -- too many, or not there
+  pub firsts-over : not kept ≡ true → Left false fs
   unfolding events-fit
-  firsts-missing b q e =
-      none-fit (by (leb n 64) (leb 1 w) (leb w 1024) (leb (n * w) (length s)) (leb (event-count (of-paths (paths-in n w s))) 4096) (leb (suc n) (length fs)) (sym q ∙ not-true b e))
-    where
-      by : (a x c d y z : Bool) → (a && c && d) ≡ false → (a && x && c && d && y && z) ≡ false
-      by false x c d y z h = refl
-      by true false c d y z h = refl
-      by true true false d y z h = refl
-      by true true true false y z h = refl
-      by true true true true y z h = absurd (true≢false h)
+  firsts-over e = none-fit (ap (λ (b : Bool). b && leb (suc n) (length fs)) (sym q ∙ not-true kept e))
 
-  -- no steps
-  pub firsts-steps : n ≤ 64 → w ≡ 0 → Left false fs
+  -- no room
+  pub firsts-room : not kept ≡ false → length fs ≤ n → Left false fs
   unfolding events-fit
-  firsts-steps h e = none-fit (simp (le-leb n 64 h, lt-leb 1 w (omega arith)))
+  firsts-room e small =
+      none-fit (ap (λ (b : Bool). b && leb (suc n) (length fs)) (sym q ∙ not-false kept e) ∙ lt-leb (suc n) (length fs) (omega arith))
 
-  module _ (h : n ≤ 64) (o : 1 ≤ w) (k : w ≤ 1024) (l : n * w ≤ length s) (m : ℕ) (e : m ≡ total moves (paths-in n w s)) where
-    -- too many events
-    pub firsts-events : 4096 < 2 + n + 3 * m → Left false fs
-    unfolding events-fit
-    firsts-events over =
-        let many : 4096 < event-count (of-paths (paths-in n w s)) = omega (arith, events-counted n w s o l) in
-        none-fit (simp (le-leb n 64 h, le-leb 1 w o, le-leb w 1024 k, le-leb (n * w) (length s) l, lt-leb (event-count (of-paths (paths-in n w s))) 4096 many))
-
-    -- no room
-    pub firsts-room : 2 + n + 3 * m ≤ 4096 → length fs ≤ n → Left false fs
-    unfolding events-fit
-    firsts-room under small =
-        let few : event-count (of-paths (paths-in n w s)) ≤ 4096 = omega (arith, events-counted n w s o l) in
-        none-fit (simp (le-leb n 64 h, le-leb 1 w o, le-leb w 1024 k, le-leb (n * w) (length s) l, le-leb (event-count (of-paths (paths-in n w s))) 4096 few, lt-leb (suc n) (length fs) (omega arith)))
-
-    -- else they are written
-    pub firsts-fit : 2 + n + 3 * m ≤ 4096 → n < length fs → (fs' : List ℕ) → fs' ≡ written (first-events (of-paths (paths-in n w s))) fs → Left true fs'
-    unfolding events-fit firsts-fitting
-    firsts-fit under room fs' q =
-        let few : event-count (of-paths (paths-in n w s)) ≤ 4096 = omega (arith, events-counted n w s o l) in
-        let fit : true ≡ events-fit n w s (length fs) =
-        simp (le-leb n 64 h, le-leb 1 w o, le-leb w 1024 k, le-leb (n * w) (length s) l, le-leb (event-count (of-paths (paths-in n w s))) 4096 few, le-leb (suc n) (length fs) room) in
-        (fit, q ∙ ap (λ (b : Bool). written (cond b (first-events (of-paths (paths-in n w s))) []) fs) fit)
+  -- else they are written
+  pub firsts-fit : not kept ≡ false → n < length fs → (fs' : List ℕ) → fs' ≡ written (first-events (of-paths (paths-in n w s))) fs → Left true fs'
+  unfolding events-fit firsts-fitting
+  firsts-fit e room fs' g =
+      let fit : true ≡ events-fit n w s (length fs) =
+      sym (ap (λ (b : Bool). b && leb (suc n) (length fs)) (sym q ∙ not-false kept e) ∙ le-leb (suc n) (length fs) room) in
+      (fit, g ∙ ap (λ (b : Bool). written (cond b (first-events (of-paths (paths-in n w s))) []) fs) fit)

@@ -1,17 +1,15 @@
 -- The limits over paths in an array, one test after the other. Assumes nothing.
-use Prim.Native.Nat.{ℕ, zero, suc, _+_, _*_, _-_, _/_, _≤_, _<_, min}
-use native.Mathlib.Nat.{mul-zero, suc-mul, lt-of-not-le, not-le-of-lt, min-eq-left, min-eq-right}
+use Prim.Native.Nat.{ℕ, zero, suc, _+_, _*_, _-_, _≤_, _<_}
+use native.Mathlib.Nat.{mul-zero, suc-mul, lt-of-not-le, not-le-of-lt}
 use native.Mathlib.Omega.{arith}
 use mathlib.Core.Path.{_≡_, refl, ap, sym, _∙_, subst}
-use mathlib.Core.Logic.{⊎-elim}
-use mathlib.Core.Bool.{Bool, true, false, not, _&&_, and-false}
+use mathlib.Core.Bool.{Bool, true, false, not, _&&_}
 use mathlib.Core.List.{List, [], _∷_}
 use lib.Dec.{T, leb, leb→le}
 use mir.Facts.{and-yes}
 use lib.ListN.{length, take, drop, length-drop}
 use lib.Seq.{length-take-le}
 use borrow.Author.Tests.{not-true, not-false, leb-true, leb-false, le-leb, lt-leb}
-use Rattle.laws.proofs.Tests.{below-or-not}
 use Rattle.tables.proofs.PathRecords.{paths-in-length}
 use Rattle.tables.specs.Arrays.{paths-in}
 use Rattle.network.specs.Events.{visits-of, points}
@@ -119,10 +117,10 @@ no-cells n s h =
     ∙ bounds-found n 0 s h (omega arith) (omega arith) (omega (arith, empty-points n s))
 
 -- where there are no steps
-no-steps : (n w : ℕ) (s : List ℕ) → n ≤ 64 → w ≡ 0 → true ≡ paths-within n w s
+pub no-steps : (n w : ℕ) (s : List ℕ) → n ≤ 64 → w ≡ 0 → true ≡ paths-within n w s
 no-steps n w s h e = subst (λ (x : ℕ). true ≡ paths-within n x s) (sym e) (no-cells n s h)
 
--- ---- the limits, and so many order bounds at most
+-- ---- the order bounds
 
 -- two tests with one outcome
 same-test : (a b c d : ℕ) → (a ≤ b → c ≤ d) → (c ≤ d → a ≤ b) → leb a b ≡ leb c d
@@ -132,64 +130,13 @@ same-test a b c d f g = by (leb a b) refl
     by true e = sym (le-leb c d (f (leb-true a b e)))
     by false e = sym (lt-leb c d (lt-of-not-le (λ h. not-le-of-lt (leb-false a b e) (g h))))
 
--- at most the smaller of two numbers
-smaller-test : (m a b : ℕ) → leb m (min a b) ≡ (leb m a && leb m b)
-smaller-test m a b = ⊎-elim left right (below-or-not a b)
-  where
-    left : a < b → leb m (min a b) ≡ (leb m a && leb m b)
-    left l = ap (leb m) (min-eq-left (omega arith)) ∙ by (leb m a) refl
-      where
-        by : (t : Bool) → leb m a ≡ t → t ≡ (t && leb m b)
-        by true e = sym (le-leb m b (omega (arith, leb-true m a e)))
-        by false e = refl
-
-    right : b ≤ a → leb m (min a b) ≡ (leb m a && leb m b)
-    right l = ap (leb m) (min-eq-right l) ∙ by (leb m b) refl
-      where
-        by : (t : Bool) → leb m b ≡ t → t ≡ (leb m a && t)
-        by true e = ap (λ (t : Bool). t && true) (sym (le-leb m a (omega (arith, leb-true m b e))))
-        by false e = sym (and-false (leb m a))
-
--- half of it
-pub room-test : (m a b : ℕ) → leb m (min a b / 2) ≡ (leb (2 * m) a && leb (2 * m) b)
-room-test m a b = same-test m (min a b / 2) (2 * m) (min a b) (λ h. omega arith) (λ h. omega arith) ∙ smaller-test (2 * m) a b
-
--- the order bounds of the paths
+-- those of the paths
 abbrev pub path-orders : ℕ → ℕ → List ℕ → ℕ
 path-orders n w s = orders-among (stops 1 (paths-in n w s))
 
-module _ (n w : ℕ) (s : List ℕ) (most : ℕ) where
-  -- the limits are not kept
-  pub none-kept : false ≡ paths-within n w s → false ≡ (paths-within n w s && leb (path-orders n w s) most)
-  none-kept e = ap (λ (b : Bool). b && leb (path-orders n w s) most) e
-
-  -- where there are no steps there is no order bound
-  pub no-steps-kept : n ≤ 64 → w ≡ 0 → true ≡ (paths-within n w s && leb (path-orders n w s) most)
-  no-steps-kept h e =
-      let none : path-orders n w s ≤ most = subst (λ (x : ℕ). path-orders n x s ≤ most) (sym e) (omega (arith, empty-orders n s)) in
-      sym (le-leb (path-orders n w s) most none) ∙ ap (λ (b : Bool). b && leb (path-orders n w s) most) (no-steps n w s h e)
-
-  -- those that the other bounds leave are asked with them
-  pub orders-asked : n ≤ 64 → w ≤ 1024 → n * w ≤ length s → 1 ≤ w → (m : ℕ) → m ≡ total moves (paths-in n w s) → 2 + n + 3 * m ≤ 4096
-      → (few : ℕ) → few ≡ min (8192 - 2 * n - 3 * m) most → leb (path-orders n w s) few ≡ (paths-within n w s && leb (path-orders n w s) most)
-  orders-asked h k l o m e under few q =
-      let b : ℕ = path-orders n w s in
-      ap (leb b) q
-      ∙ smaller-test b (8192 - 2 * n - 3 * m) most
-      ∙ ap (λ (t : Bool). t && leb b most)
-      (same-test b (8192 - 2 * n - 3 * m) (2 * n + 3 * m + b) 8192 (λ g. omega arith) (λ g. omega arith) ∙ bounds-counted n w s h k l o m b e refl under)
-
--- paths that keep the limits have at most 8,192 order bounds
-pub kept-asked : (n w : ℕ) (s : List ℕ) → (paths-within n w s && leb (path-orders n w s) 8192) ≡ paths-within n w s
-unfolding paths-within
-kept-asked n w s = by (paths-within n w s) refl
-  where
-    ps : List (List ℕ)
-    ps = paths-in n w s
-
-    by : (t : Bool) → paths-within n w s ≡ t → (t && leb (path-orders n w s) 8192) ≡ t
-    by true e =
-        let (_, kept) = and-yes (leb n 64 && leb w 1024 && leb (n * w) (length s)) (limits-kept (of-paths ps)) (subst T (sym e) tt) in
-        let (_, few) = and-yes (leb (2 + total path-points ps) 4096) (leb (2 * length ps + 3 * total moves ps + path-orders n w s) 8192) (subst T (limits-are ps) kept) in
-        le-leb (path-orders n w s) 8192 (omega (arith, leb→le (2 * length ps + 3 * total moves ps + path-orders n w s) 8192 few))
-    by false e = refl
+-- as many as the other bounds leave
+pub orders-asked : (n w : ℕ) (s : List ℕ) → n ≤ 64 → w ≤ 1024 → n * w ≤ length s → 1 ≤ w → (m : ℕ) → m ≡ total moves (paths-in n w s) → 2 + n + 3 * m ≤ 4096
+    → leb (path-orders n w s) (8192 - 2 * n - 3 * m) ≡ paths-within n w s
+orders-asked n w s h k l o m e under =
+    let b : ℕ = path-orders n w s in
+    same-test b (8192 - 2 * n - 3 * m) (2 * n + 3 * m + b) 8192 (λ g. omega arith) (λ g. omega arith) ∙ bounds-counted n w s h k l o m b e refl under

@@ -1,27 +1,25 @@
 -- Order bounds written to two arrays, some after the other. Assumes nothing.
-use Prim.Native.Nat.{ℕ, _+_, _*_, _/_, _≤_, min}
+use Prim.Native.Nat.{ℕ, _+_, _*_, _≤_, _<_}
+use native.Mathlib.Nat.{mul-le-mul-right}
 use native.Mathlib.Omega.{arith}
 use mathlib.Core.Path.{_≡_, refl, ap, sym, _∙_, subst}
 use mathlib.Core.List.{List, [], _∷_, _++_, flatMap}
-use mathlib.Core.Bool.{Bool, true, false, not, _&&_, cond, and-assoc}
-use lib.Dec.{T, leb, leb→le}
-use mir.Facts.{and-yes}
+use mathlib.Core.Bool.{Bool, true, false, not, cond}
 use lib.ListN.{length, length-append}
 use lib.Seq.{sets, length-sets}
-use borrow.Author.Tests.{le-leb, lt-leb, not-false, not-true}
-use Rattle.laws.proofs.Tests.{passes}
-use Rattle.words.specs.Words.{written}
+use borrow.Author.Tests.{not-false, not-true}
 use Rattle.tables.specs.Arrays.{paths-in}
-use Rattle.network.specs.Events.{routes-of, event-count}
-use Rattle.network.specs.Bounds.{Bound, no-earlier, order-bounds, bounds}
+use Rattle.tables.proofs.PathRecords.{paths-in-length}
+use Rattle.network.specs.Events.{routes-of}
+use Rattle.network.specs.Bounds.{Bound, no-earlier, order-bounds}
 use Rattle.network.specs.BoundArrays.{bound-ends, bound-range}
-use Rattle.network.proofs.BoundStores.{by-ends, by-range, pairs-length, more-stored, front-stored}
-use Rattle.limits.specs.Limits.{of-paths, limits-kept, paths-within}
-use Rattle.limits.specs.Orders.{orders-fitting}
+use Rattle.network.proofs.BoundStores.{by-ends, by-range, more-stored}
+use Rattle.limits.specs.Limits.{of-paths}
+use Rattle.limits.specs.Orders.{events-kept, orders-fitting}
 use Rattle.limits.specs.Counts.{total, moves}
 use Rattle.limits.proofs.RowBounds.{of-paths-carts, order-count-is}
-use Rattle.limits.proofs.LimitSteps.{there-says, path-orders, room-test}
-use Rattle.limits.proofs.Firsts.{events-counted}
+use Rattle.limits.proofs.LimitSteps.{path-orders}
+use Rattle.limits.proofs.Few.{orders-few}
 
 -- ---- some written, others to come
 
@@ -74,17 +72,9 @@ module _ (all : List Bound) (k : ℕ) (ends₀ ranges₀ : List ℕ) (bs : List 
   unfolding flatMap
   write-none cs e m' ends' ranges' em ee er = write-some [] cs e m' ends' ranges' (omega (arith, em)) ee er
 
-  -- there is room for those that are next
-  pub room-some : (some cs : List Bound) → bs ≡ some ++ cs → 2 * (k + length all) ≤ length ends₀ → 2 * (k + length all) ≤ length ranges₀
-      → (2 * (m + length some) ≤ length ends) × (2 * (m + length some) ≤ length ranges)
-  room-some some cs e he hr =
-      let both : length bs ≡ length some + length cs = ap (λ (l : List Bound). length l) e ∙ length-append some cs in
-      (omega (arith, t .counted, t .ends-long), omega (arith, t .counted, t .ranges-long))
-
-  -- for one
-  pub room-one : (b : Bound) (cs : List Bound) → bs ≡ b ∷ cs → 2 * (k + length all) ≤ length ends₀ → 2 * (k + length all) ≤ length ranges₀
-      → (2 * m + 2 ≤ length ends) × (2 * m + 2 ≤ length ranges)
-  room-one b cs e he hr = let (l, r) = room-some (b ∷ []) cs e he hr in (omega (arith, l), omega (arith, r))
+  -- those that are next are no more than all
+  pub few-some : (some cs : List Bound) → bs ≡ some ++ cs → (most : ℕ) → k + length all ≤ most → m + length some ≤ most
+  few-some some cs e most h = omega (arith, t .counted, ap (λ (l : List Bound). length l) e, length-append some cs)
 
   -- at last all are written
   pub written-all : bs ≡ [] → (m ≡ k + length all) × ((ends ≡ sets ends₀ (2 * k) (flatMap bound-ends all)) × (ranges ≡ sets ranges₀ (2 * k) (flatMap bound-range all)))
@@ -97,94 +87,81 @@ module _ (all : List Bound) (k : ℕ) (ends₀ ranges₀ : List ℕ) (bs : List 
 
 -- ---- all order bounds
 
--- what is stored from the first place on is written over the front
-pub all-written : (row os : List Bound) (ends ranges ends' ranges' : List ℕ) (m : ℕ) → row ≡ os → 2 * length os ≤ length ends → 2 * length os ≤ length ranges
+-- what is stored of the row's
+pub all-written : (row os : List Bound) (ends ranges ends' ranges' : List ℕ) (m : ℕ) → row ≡ os
     → m ≡ length row → ends' ≡ sets ends 0 (flatMap bound-ends row) → ranges' ≡ sets ranges 0 (flatMap bound-range row)
-    → (m ≡ length os) × ((ends' ≡ written (flatMap bound-ends os) ends) × (ranges' ≡ written (flatMap bound-range os) ranges))
-all-written row os ends ranges ends' ranges' m e he hr em ee er = (
+    → (m ≡ length os) × ((ends' ≡ sets ends 0 (flatMap bound-ends os)) × (ranges' ≡ sets ranges 0 (flatMap bound-range os)))
+all-written row os ends ranges ends' ranges' m e em ee er = (
   em ∙ ap (λ (l : List Bound). length l) e,
-  (
-    ee ∙ ap (λ (l : List Bound). sets ends 0 (flatMap bound-ends l)) e ∙ front-stored (flatMap bound-ends os) ends (omega (arith, pairs-length bound-ends by-ends os)),
-    er ∙ ap (λ (l : List Bound). sets ranges 0 (flatMap bound-range l)) e ∙ front-stored (flatMap bound-range os) ranges (omega (arith, pairs-length bound-range by-range os)),
-  ),
+  (ee ∙ ap (λ (l : List Bound). sets ends 0 (flatMap bound-ends l)) e, er ∙ ap (λ (l : List Bound). sets ranges 0 (flatMap bound-range l)) e),
 )
 
--- ---- the tests
+-- no bounds
+none-there : (bs : List Bound) → length bs ≡ 0 → bs ≡ []
+none-there [] e = refl
+none-there (b ∷ bs) e = absurd (omega arith)
 
--- paths that keep the limits are few enough for the code that counts and writes
-within-says : (n w : ℕ) (s : List ℕ) → T (paths-within n w s) → 1 ≤ w
-    → ((n ≤ 64) × (1 ≤ w) × (w ≤ 1024) × (n * w ≤ length s)) × (n + total moves (paths-in n w s) ≤ 1408)
-unfolding paths-within limits-kept
-within-says n w s t o =
-    let ps : List (List ℕ) = paths-in n w s in
-    let there : Bool = leb n 64 && leb w 1024 && leb (n * w) (length s) in
-    let (all, kept) = and-yes there (limits-kept (of-paths ps)) t in
-    let (few, short, cells) = there-says n w s there refl (ap not (passes there all)) in
-    let (events, _) = and-yes (leb (event-count (of-paths ps)) 4096) (leb (length (bounds (of-paths ps))) 8192) kept in
-    let count : event-count (of-paths ps) ≤ 4096 = leb→le (event-count (of-paths ps)) 4096 events in
-    ((few, o, short, cells), omega (arith, few, events-counted n w s o cells))
-
-module _ (n w : ℕ) (s ends ranges : List ℕ) where
+module _ (n w : ℕ) (s : List ℕ) where
   -- the order bounds of the paths
-  abbrev os : List Bound
+  abbrev pub os : List Bound
   os = order-bounds (routes-of (of-paths (paths-in n w s)))
 
-  -- this is to be answered and left
+  -- as many as are counted
+  orders-many : path-orders n w s ≡ length os
+  unfolding of-paths
+  orders-many = sym (order-count-is (of-paths (paths-in n w s)) (of-paths-carts (paths-in n w s)))
+
+  -- at most one for each move and other cart
+  orders-most : length os + total moves (paths-in n w s) ≤ n * total moves (paths-in n w s)
+  orders-most = subst (λ (c : ℕ). length os + total moves (paths-in n w s) ≤ c * total moves (paths-in n w s)) (paths-in-length n w s) (omega (arith, orders-few (paths-in n w s), orders-many))
+
+  -- so not too many to be numbered
+  pub orders-numbered : n ≤ 64 → n + total moves (paths-in n w s) ≤ 1408 → length os ≤ 90112
+  orders-numbered h l = omega (arith, orders-most, mul-le-mul-right (total moves (paths-in n w s)) h)
+
+  -- and none of a cart alone
+  no-orders : n < 2 → os ≡ []
+  no-orders h =
+      let most : n * total moves (paths-in n w s) ≤ 1 * total moves (paths-in n w s) = mul-le-mul-right (total moves (paths-in n w s)) (omega arith) in
+      none-there os (omega (arith, orders-most))
+
+-- ---- what is answered and left
+
+module _ (n w : ℕ) (s ends ranges : List ℕ) where
   abbrev Left : ℕ → List ℕ → List ℕ → Type 0
   Left k ends' ranges' =
-      (k ≡ length (orders-fitting n w s (length ends) (length ranges)))
-      × ((ends' ≡ written (flatMap bound-ends (orders-fitting n w s (length ends) (length ranges))) ends)
-      × (ranges' ≡ written (flatMap bound-range (orders-fitting n w s (length ends) (length ranges))) ranges))
+      (k ≡ length (orders-fitting n w s))
+      × ((ends' ≡ sets ends 0 (flatMap bound-ends (orders-fitting n w s))) × (ranges' ≡ sets ranges 0 (flatMap bound-range (orders-fitting n w s))))
 
   -- where there are none to write
-  none-fit : (leb 1 w && paths-within n w s && leb (2 * length os) (length ends) && leb (2 * length os) (length ranges)) ≡ false → Left 0 ends ranges
-  unfolding orders-fitting written flatMap
+  none-fit : orders-fitting n w s ≡ [] → Left 0 ends ranges
+  unfolding flatMap
   none-fit e = (
-    ap (λ (b : Bool). length (cond b os [])) (sym e),
-    (ap (λ (b : Bool). written (flatMap bound-ends (cond b os [])) ends) (sym e), ap (λ (b : Bool). written (flatMap bound-range (cond b os [])) ranges) (sym e)),
+    ap (λ (l : List Bound). length l) (sym e),
+    (ap (λ (l : List Bound). sets ends 0 (flatMap bound-ends l)) (sym e), ap (λ (l : List Bound). sets ranges 0 (flatMap bound-range l)) (sym e)),
   )
 
-  -- no steps
-  pub orders-steps : w ≡ 0 → Left 0 ends ranges
-  orders-steps e = none-fit (simp (lt-leb 1 w (omega arith)))
+  -- a cart alone
+  pub orders-alone : n < 2 → Left 0 ends ranges
+  unfolding orders-fitting
+  orders-alone h = none-fit (ap (λ (l : List Bound). cond (events-kept n w s) l []) (no-orders n w s h) ∙ by (events-kept n w s))
+    where
+      by : (b : Bool) → cond {A = List Bound} b [] [] ≡ []
+      by true = refl
+      by false = refl
 
-  module _ (o : 1 ≤ w) (room : ℕ) (small : room ≡ min (length ends) (length ranges)) (b : Bool) (p : b ≡ (paths-within n w s && leb (path-orders n w s) (room / 2))) where
-    -- as many as are counted
-    orders-many : path-orders n w s ≡ length os
-    unfolding of-paths
-    orders-many = sym (order-count-is (of-paths (paths-in n w s)) (of-paths-carts (paths-in n w s)))
+  module _ (kept : Bool) (q : kept ≡ events-kept n w s) where
+    -- the limit of events is not kept
+    pub orders-over : not kept ≡ true → Left 0 ends ranges
+    unfolding orders-fitting
+    orders-over e = none-fit (ap (λ (b : Bool). cond b (os n w s) []) (sym q ∙ not-true kept e))
 
-    -- the limits are kept, and there is room
-    orders-tested : b ≡ (leb 1 w && paths-within n w s && leb (2 * length os) (length ends) && leb (2 * length os) (length ranges))
-    orders-tested =
-        p
-        ∙ ap (λ (r : ℕ). paths-within n w s && leb (path-orders n w s) (r / 2)) small
-        ∙ ap (λ (t : Bool). paths-within n w s && t) (room-test (path-orders n w s) (length ends) (length ranges))
-        ∙ ap (λ (m : ℕ). paths-within n w s && (leb (2 * m) (length ends) && leb (2 * m) (length ranges))) orders-many
-        ∙ sym (and-assoc (paths-within n w s) (leb (2 * length os) (length ends)) (leb (2 * length os) (length ranges)))
-        ∙ ap (λ (t : Bool). t && paths-within n w s && leb (2 * length os) (length ends) && leb (2 * length os) (length ranges)) (sym (le-leb 1 w o))
-
-    -- they are not, or there is none
-    pub orders-over : not b ≡ true → Left 0 ends ranges
-    orders-over e = none-fit (sym orders-tested ∙ not-true b e)
-
-    -- else there are few enough for the code that writes them
-    pub orders-room : not b ≡ false
-        → ((n ≤ 64) × (1 ≤ w) × (w ≤ 1024) × (n * w ≤ length s)) × ((n + total moves (paths-in n w s) ≤ 1408) × ((2 * length os ≤ length ends) × (2 * length os ≤ length ranges)))
-    orders-room e =
-        let within : Bool = leb 1 w && paths-within n w s in
-        let (more, ranged) = and-yes (within && leb (2 * length os) (length ends)) (leb (2 * length os) (length ranges)) (subst T (sym (not-false b e) ∙ orders-tested) tt) in
-        let (all, ended) = and-yes within (leb (2 * length os) (length ends)) more in
-        let (_, kept) = and-yes (leb 1 w) (paths-within n w s) all in
-        let (few, moved) = within-says n w s kept o in
-        (few, (moved, (leb→le (2 * length os) (length ends) ended, leb→le (2 * length os) (length ranges) ranged)))
-
-    -- and they are written
-    pub orders-fit : not b ≡ false → (k : ℕ) (ends' ranges' : List ℕ)
-        → k ≡ length os → ends' ≡ written (flatMap bound-ends os) ends → ranges' ≡ written (flatMap bound-range os) ranges → Left k ends' ranges'
+    -- else they are written
+    pub orders-fit : not kept ≡ false → (k : ℕ) (ends' ranges' : List ℕ)
+        → k ≡ length (os n w s) → ends' ≡ sets ends 0 (flatMap bound-ends (os n w s)) → ranges' ≡ sets ranges 0 (flatMap bound-range (os n w s)) → Left k ends' ranges'
     unfolding orders-fitting
     orders-fit e k ends' ranges' ek ee er =
-        let fit : true ≡ (leb 1 w && paths-within n w s && leb (2 * length os) (length ends) && leb (2 * length os) (length ranges)) = sym (not-false b e) ∙ orders-tested in (
-          ek ∙ ap (λ (b : Bool). length (cond b os [])) fit,
-          (ee ∙ ap (λ (b : Bool). written (flatMap bound-ends (cond b os [])) ends) fit, er ∙ ap (λ (b : Bool). written (flatMap bound-range (cond b os [])) ranges) fit),
+        let all : os n w s ≡ orders-fitting n w s = ap (λ (b : Bool). cond b (os n w s) []) (sym (not-false kept e) ∙ q) in (
+          ek ∙ ap (λ (l : List Bound). length l) all,
+          (ee ∙ ap (λ (l : List Bound). sets ends 0 (flatMap bound-ends l)) all, er ∙ ap (λ (l : List Bound). sets ranges 0 (flatMap bound-range l)) all),
         )

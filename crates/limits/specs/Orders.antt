@@ -15,22 +15,23 @@ use Rattle.limits.specs.Limits.{of-paths, paths-within}
 unfoldable pub first-events : Plan → List ℕ
 first-events p = map (λ (r : Route). r .first) (routes-of p) ++ (finish-event p ∷ [])
 
--- n paths of w cells each in the front of an array, no more carts, steps and events than may be, and room for the first events
+-- n paths of w cells each in the front of an array: no more carts, steps and events than may be, a step at least, and all of them there
+unfoldable pub events-kept : ℕ → ℕ → List ℕ → Bool
+events-kept n w s = leb n 64 && leb 1 w && leb w 1024 && leb (n * w) (length s) && leb (event-count (of-paths (paths-in n w s))) 4096
+
+-- and room for the first events
 unfoldable pub events-fit : ℕ → ℕ → List ℕ → ℕ → Bool
-events-fit n w s room =
-    leb n 64 && leb 1 w && leb w 1024 && leb (n * w) (length s) && leb (event-count (of-paths (paths-in n w s))) 4096 && leb (suc n) room
+events-fit n w s room = events-kept n w s && leb (suc n) room
 
 -- their first events, where they fit
 unfoldable pub firsts-fitting : ℕ → ℕ → List ℕ → ℕ → List ℕ
 firsts-fitting n w s room = cond (events-fit n w s room) (first-events (of-paths (paths-in n w s))) []
 
--- the order bounds of n paths of w cells each in the front of an array, where the limits are kept and there is room for them
-unfoldable pub orders-fitting : ℕ → ℕ → List ℕ → ℕ → ℕ → List Bound
-orders-fitting n w s ends ranges =
-    let os : List Bound = order-bounds (routes-of (of-paths (paths-in n w s))) in
-    cond (leb 1 w && paths-within n w s && leb (2 * length os) ends && leb (2 * length os) ranges) os []
+-- the order bounds of such paths
+unfoldable pub orders-fitting : ℕ → ℕ → List ℕ → List Bound
+orders-fitting n w s = cond (events-kept n w s) (order-bounds (routes-of (of-paths (paths-in n w s)))) []
 
 -- Names every definition of this module, for a proof that computes with them all.
 unfoldable pub open-orders : Unit {0}
-unfolding first-events events-fit firsts-fitting orders-fitting
+unfolding first-events events-kept events-fit firsts-fitting orders-fitting
 open-orders = tt

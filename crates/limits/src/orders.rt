@@ -5,7 +5,6 @@ ghost use mathlib.Core.List.{flatMap};
 ghost use Prim.Native.Nat.{ℕ, suc, _+_, _*_, _-_, _≤_, _<_};
 ghost use lib.ListN.{length, getD};
 ghost use lib.Seq.{sets};
-ghost use Rattle.words.specs.Words.{written};
 ghost use Rattle.tables.specs.Arrays.{paths-in};
 ghost use Rattle.network.specs.Events.{routes-of};
 ghost use Rattle.network.specs.Bounds.{no-earlier, order-bounds};
@@ -24,7 +23,6 @@ fn entry_event(u: usize, j: u8) -> u16
 
 // Writes bound number k: [0, none] from one event to another.
 fn put_bound(ends: &mut [u16], ranges: &mut [u64], k: usize, from: u16, to: u16)
-    requires { ⌜ (2 * k + 2 ≤ length (now ends)) × (2 * k + 2 ≤ length (now ranges)) ⌝ }
     ensures { λ _. ⌜ now (ends .exit) ≡ sets (now (ends .entry)) (2 * k) (bound-ends (no-earlier from to)) ⌝ }
     ensures { λ _. ⌜ now (ranges .exit) ≡ sets (now (ranges .entry)) (2 * k) (bound-range (no-earlier from to)) ⌝ }
 {
@@ -89,7 +87,7 @@ fn put_later(
 ) -> usize
     requires { ⌜ (n ≤ 1408) × (v < n) × ((u : ℕ) → u < n → getD (now numbers) u 0 ≤ u + 1) ⌝ }
     requires { ⌜ (length (now numbers) ≡ 1408) × (length (now times) ≡ 1408) × (length (now places) ≡ 1408) × (length (now heads) ≡ 1024) × (length (now nexts) ≡ 1408) × (length (now skips) ≡ 1408) × Grouped (now numbers) (now places) (now heads) (now nexts) (now skips) n ⌝ }
-    requires { ⌜ (2 * (k + length (bounds-from (now numbers) (now times) (now places) n v)) ≤ length (now ends)) × (2 * (k + length (bounds-from (now numbers) (now times) (now places) n v)) ≤ length (now ranges)) ⌝ }
+    requires { ⌜ k + length (bounds-from (now numbers) (now times) (now places) n v) ≤ 90112 ⌝ }
     ensures { λ r. ⌜ r ≡ k + length (bounds-from (now (numbers .entry)) (now (times .entry)) (now (places .entry)) n v) ⌝ }
     ensures { λ _. ⌜ (now (ends .exit) ≡ sets (now (ends .entry)) (2 * k) (flatMap bound-ends (bounds-from (now (numbers .entry)) (now (times .entry)) (now (places .entry)) n v))) × (now (ranges .exit) ≡ sets (now (ranges .entry)) (2 * k) (flatMap bound-range (bounds-from (now (numbers .entry)) (now (times .entry)) (now (places .entry)) n v))) ⌝ }
 {
@@ -128,7 +126,7 @@ fn put_orders(
 ) -> usize
     requires { ⌜ (n ≤ 1408) × ((u : ℕ) → u < n → getD (now numbers) u 0 ≤ u + 1) ⌝ }
     requires { ⌜ (length (now numbers) ≡ 1408) × (length (now times) ≡ 1408) × (length (now places) ≡ 1408) × (length (now heads) ≡ 1024) × (length (now nexts) ≡ 1408) × (length (now skips) ≡ 1408) × Grouped (now numbers) (now places) (now heads) (now nexts) (now skips) n ⌝ }
-    requires { ⌜ (2 * length (row-bounds (row-in (now numbers) (now times) (now places) n 0)) ≤ length (now ends)) × (2 * length (row-bounds (row-in (now numbers) (now times) (now places) n 0)) ≤ length (now ranges)) ⌝ }
+    requires { ⌜ length (row-bounds (row-in (now numbers) (now times) (now places) n 0)) ≤ 90112 ⌝ }
     ensures { λ r. ⌜ r ≡ length (row-bounds (row-in (now (numbers .entry)) (now (times .entry)) (now (places .entry)) n 0)) ⌝ }
     ensures { λ _. ⌜ (now (ends .exit) ≡ sets (now (ends .entry)) 0 (flatMap bound-ends (row-bounds (row-in (now (numbers .entry)) (now (times .entry)) (now (places .entry)) n 0)))) × (now (ranges .exit) ≡ sets (now (ranges .entry)) 0 (flatMap bound-range (row-bounds (row-in (now (numbers .entry)) (now (times .entry)) (now (places .entry)) n 0)))) ⌝ }
 {
@@ -165,11 +163,9 @@ pub(crate) fn write_orders(
 ) -> usize
     requires { ⌜ (carts ≤ 64) × (1 ≤ steps) × (steps ≤ 1024) × (carts * steps ≤ length (now cells)) ⌝ }
     requires { ⌜ carts + total moves (paths-in carts steps (now cells)) ≤ 1408 ⌝ }
-    requires { ⌜ 2 * length (order-bounds (routes-of (of-paths (paths-in carts steps (now cells))))) ≤ length (now ends) ⌝ }
-    requires { ⌜ 2 * length (order-bounds (routes-of (of-paths (paths-in carts steps (now cells))))) ≤ length (now ranges) ⌝ }
     ensures { λ r. ⌜ r ≡ length (order-bounds (routes-of (of-paths (paths-in carts steps (now (cells .entry)))))) ⌝ }
-    ensures { λ _. ⌜ now (ends .exit) ≡ written (flatMap bound-ends (order-bounds (routes-of (of-paths (paths-in carts steps (now (cells .entry))))))) (now (ends .entry)) ⌝ }
-    ensures { λ _. ⌜ now (ranges .exit) ≡ written (flatMap bound-range (order-bounds (routes-of (of-paths (paths-in carts steps (now (cells .entry))))))) (now (ranges .entry)) ⌝ }
+    ensures { λ _. ⌜ now (ends .exit) ≡ sets (now (ends .entry)) 0 (flatMap bound-ends (order-bounds (routes-of (of-paths (paths-in carts steps (now (cells .entry))))))) ⌝ }
+    ensures { λ _. ⌜ now (ranges .exit) ≡ sets (now (ranges .entry)) 0 (flatMap bound-range (order-bounds (routes-of (of-paths (paths-in carts steps (now (cells .entry))))))) ⌝ }
 {
     let mut numbers: [u8; 1408] = [0; 1408];
     let mut times: [u16; 1408] = [0; 1408];

@@ -12,7 +12,7 @@ use Rattle.limits.specs.Counts.{counts, stop-at, stops-in, next-after}
 use Rattle.limits.specs.Row.{Entry, later-bounds, entry-at, placed, entry-in, row-in}
 use Rattle.limits.proofs.Links.{walk-begins}
 use Rattle.limits.proofs.Skips.{skip-fewer, skip-counts, skip-passes}
-use Rattle.limits.proofs.OrderSteps.{ToWrite, write-first, write-one, write-none, room-one, written-all}
+use Rattle.limits.proofs.OrderSteps.{ToWrite, write-first, write-one, write-none, written-all}
 use Rattle.limits.proofs.orders.put_later.Statement.{statement}
 use Rattle.limits.proofs.orders.put_later.Tie as tie
 
@@ -105,35 +105,14 @@ shared-slice-read-is-counted-2 c = search needs
 is-counted-requires : tie.Need-is-counted-requires Inv-loop μ-loop
 is-counted-requires c κs = search needs
 
--- where the visit at hand counts there is room for its bound
-room : (c : tie.Then1 Inv-loop μ-loop)
-    → (2 * c .before .before .before .before .before .before .before .loop .m + 2 ≤ length (c .before .before .before .before .before .before .before .loop .ends)) × (2 * c .before .before .before .before .before .before .before .loop .m + 2 ≤ length (c .before .before .before .before .before .before .before .loop .ranges))
-unfolding entry-in stop-at
-room c =
-    let q = c .before .before .before .before .before .before in
-    let l = q .before in
-    let z = l .before .before .before .before .before .before .before .before .before .before .before .before .before .before in
-    let a = z .args in
-    let v : Entry = entry-in (a .numbers .now) (a .times .now) (a .places .now) (a .v) in
-    let i : ℕ = getD (a .numbers .now) (a .n - l .loop .left) 0 in
-    let next : ℕ = next-after (a .nexts .now) (a .skips .now) (a .n - l .loop .left) i (v .visit .cart) i in
-    let t : 0 < l .loop .left = q .loop-test .taken in
-    let f = c .before in
-    let e : f .is-counted .result ≡ counts (v .visit) (l .loop .last) (stop-at (a .numbers .now) (a .times .now) (a .places .now) (a .n - l .loop .left)) = f .is-counted .ensures in
-    let rest : List Bound = later-bounds v (getD (a .numbers .now) (a .n - l .loop .left) 0) (row-in (a .numbers .now) (a .times .now) (a .places .now) next (a .n - next)) in
-    room-one (later-bounds v 0 (row-in (a .numbers .now) (a .times .now) (a .places .now) (a .n) 0)) (a .k) (a .ends .now) (a .ranges .now)
-    (later-bounds v (l .loop .last) (row-in (a .numbers .now) (a .times .now) (a .places .now) (l .loop .left) (a .n - l .loop .left))) (l .loop .m) (l .loop .ends) (l .loop .ranges) (l .loop .inv .2)
-    (no-earlier (v .event + 1) (3 * (a .n - l .loop .left) + 3 - 2 * getD (a .numbers .now) (a .n - l .loop .left) 0 - 1)) rest
-    (skip-counts (a .numbers .now) (a .times .now) (a .places .now) (a .heads .now) (a .nexts .now) (a .skips .now) (a .n) (z .pre .1 .0 .6) v (l .loop .left) t (l .loop .inv .0) (l .loop .inv .1 t) i next refl (l .loop .last) (sym e ∙ c .if1 .taken) refl) (z .pre .1 .1 .0) (z .pre .1 .1 .1)
-
 put-bound-requires : tie.Need-put-bound-requires Inv-loop μ-loop
-put-bound-requires c κs = room (c .before .before)
+put-bound-requires c κs = search needs
 
 add-m : tie.Need-add-m Inv-loop μ-loop
 add-m c =
     let l = c .before .before .before .before .before .before .before .before .before .before .before .before .before .before in
-    let long : length (l .loop .ends) ≡ length (l .before .before .before .before .before .before .before .before .before .before .before .before .before .before .args .ends .now) = l .loop .inv .2 .ends-long in
-    omega (arith, room (c .before .before .before .before .before .before .before), l .before .before .before .before .before .before .before .before .before .before .before .before .before .before .good .1 .1 .1 .1 .1 .1 .1 .1 .1 .0 .0)
+    let z = l .before .before .before .before .before .before .before .before .before .before .before .before .before .before in
+    omega (arith, l .loop .inv .2 .counted, z .pre .1 .1)
 
 next-after-requires : tie.Need-next-after-requires Inv-loop μ-loop
 next-after-requires c κs =

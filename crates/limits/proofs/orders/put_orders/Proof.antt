@@ -9,7 +9,7 @@ use lib.ListN.{length}
 use Rattle.network.specs.Bounds.{Bound}
 use Rattle.limits.specs.Row.{Entry, later-bounds, row-from, row-bounds, entry-in, row-in}
 use Rattle.limits.proofs.CountSteps.{row-more, row-same, row-none}
-use Rattle.limits.proofs.OrderSteps.{ToWrite, write-first, write-some, write-none, room-some, written-all}
+use Rattle.limits.proofs.OrderSteps.{ToWrite, write-first, write-some, write-none, few-some, written-all}
 use Rattle.limits.proofs.orders.put_orders.Statement.{statement}
 use Rattle.limits.proofs.orders.put_orders.Tie as tie
 
@@ -51,12 +51,10 @@ put-later-requires c κs =
     let a = z .args in
     let all : List Entry = row-in (a .numbers .now) (a .times .now) (a .places .now) (a .n) 0 in
     let some : List Bound = later-bounds (entry-in (a .numbers .now) (a .times .now) (a .places .now) (l .loop .v)) 0 all in
-    let he : 2 * (0 + length (row-bounds all)) ≤ length (a .ends .now) = omega (arith, z .pre .1 .1 .0) in
-    let hr : 2 * (0 + length (row-bounds all)) ≤ length (a .ranges .now) = omega (arith, z .pre .1 .1 .1) in
-    let (e, r) = room-some (row-bounds all) 0 (a .ends .now) (a .ranges .now) (row-from all (row-in (a .numbers .now) (a .times .now) (a .places .now) (a .n - l .loop .v) (l .loop .v))) (l .loop .k) (l .loop .ends) (l .loop .ranges) (l .loop .inv .1)
+    let few : l .loop .k + length some ≤ 90112 = few-some (row-bounds all) 0 (a .ends .now) (a .ranges .now) (row-from all (row-in (a .numbers .now) (a .times .now) (a .places .now) (a .n - l .loop .v) (l .loop .v))) (l .loop .k) (l .loop .ends) (l .loop .ranges) (l .loop .inv .1)
     some (row-from all (row-in (a .numbers .now) (a .times .now) (a .places .now) (a .n - (l .loop .v + 1)) (l .loop .v + 1)))
-    (row-more (a .numbers .now) (a .times .now) (a .places .now) all (a .n) (l .loop .v) (q .loop-test .taken) (c .before .before .if1 .taken)) he hr in
-    ((omega arith, omega arith, z .pre .0 .1), (z .pre .1 .0, (e, r)))
+    (row-more (a .numbers .now) (a .times .now) (a .places .now) all (a .n) (l .loop .v) (q .loop-test .taken) (c .before .before .if1 .taken)) 90112 (omega (arith, z .pre .1 .1)) in
+    ((omega arith, omega arith, z .pre .0 .1), (z .pre .1 .0, few))
 
 add-v : tie.Need-add-v Inv-loop μ-loop
 add-v c = search needs

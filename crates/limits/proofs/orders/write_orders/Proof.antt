@@ -12,7 +12,7 @@ use Rattle.limits.specs.Limits.{of-paths}
 use Rattle.limits.specs.Row.{row-bounds, row-in}
 use Rattle.limits.proofs.RowPlaces.{numbers-low, row-is}
 use Rattle.limits.proofs.Skips.{next-low}
-use Rattle.limits.proofs.OrderSteps.{all-written}
+use Rattle.limits.proofs.OrderSteps.{orders-numbered, all-written}
 use Rattle.limits.proofs.orders.write_orders.Statement.{statement}
 use Rattle.limits.proofs.orders.write_orders.Tie as tie
 
@@ -54,7 +54,7 @@ put-skips-requires c κs =
     let k = c .before .before .before .before .before in
     let p = k .before .before .before .before .before .before .before in
     let z = p .before .before .before .before .before .before .before in
-    ((omega (arith, z .pre .1 .0, p .put-all .ensures .0), search needs, search needs, search needs), next-low _ _ _ _ (k .link .ensures))
+    ((omega (arith, z .pre .1, p .put-all .ensures .0), search needs, search needs, search needs), next-low _ _ _ _ (k .link .ensures))
 
 slice-aggregate-put-orders : tie.Need-slice-aggregate-put-orders
 slice-aggregate-put-orders c = search needs
@@ -93,7 +93,7 @@ put-orders-requires c κs =
           sym (slice-aggregate-put-orders-6 (c .before .before)),
           record { linked = k .link .ensures; skipped = g .put-skips .ensures },
         ),
-        (omega (arith, z .pre .1 .1 .0), omega (arith, z .pre .1 .1 .1)),
+        omega (arith, same, orders-numbered (a .carts) (a .steps) (a .cells .now) (z .pre .0 .0) (z .pre .1)),
       ),
     )
 
@@ -110,7 +110,7 @@ returns c =
     let z = p .before .before .before .before .before .before .before in
     let a = z .args in
     all-written (row-bounds (row-in (p .put-all .last .1 .1 .1 .0) (p .put-all .last .1 .1 .1 .1 .0) (p .put-all .last .1 .1 .1 .1 .1 .0) (p .put-all .result) 0)) (order-bounds (routes-of (of-paths (paths-in (a .carts) (a .steps) (a .cells .now))))) (a .ends .now) (a .ranges .now)
-    (o .put-orders .last .1 .1 .1 .1 .1 .1 .1 .0) (o .put-orders .last .1 .1 .1 .1 .1 .1 .1 .1 .0) (o .put-orders .result) (row-is (p .put-all .last .1 .1 .1 .0) (p .put-all .last .1 .1 .1 .1 .0) (p .put-all .last .1 .1 .1 .1 .1 .0) (p .put-all .result) (a .carts) (a .steps) (a .cells .now) (z .pre .0 .1) (z .pre .0 .3) (p .put-all .ensures .1)) (z .pre .1 .1 .0) (z .pre .1 .1 .1)
+    (o .put-orders .last .1 .1 .1 .1 .1 .1 .1 .0) (o .put-orders .last .1 .1 .1 .1 .1 .1 .1 .1 .0) (o .put-orders .result) (row-is (p .put-all .last .1 .1 .1 .0) (p .put-all .last .1 .1 .1 .1 .0) (p .put-all .last .1 .1 .1 .1 .1 .0) (p .put-all .result) (a .carts) (a .steps) (a .cells .now) (z .pre .0 .1) (z .pre .0 .3) (p .put-all .ensures .1))
     (o .put-orders .ensures .0) (o .put-orders .ensures .1 .0) (o .put-orders .ensures .1 .1)
 
 pub write-orders-spec : {M : Type 1} → statement M
