@@ -1,12 +1,16 @@
 -- Bounds stored in an array, one after the other: two numbers each. Assumes nothing.
-use Prim.Native.Nat.{ℕ, zero, suc, _+_, _*_, _≤_}
-use native.Mathlib.Nat.{add-zero}
+use Prim.Native.Nat.{ℕ, zero, suc, _+_, _*_, _-_, _≤_, _<_, min}
+use native.Mathlib.Nat.{add-zero, min-eq-left, min-eq-right}
 use native.Mathlib.Numerals.{add-one}
 use native.Mathlib.Omega.{arith}
 use mathlib.Core.Path.{_≡_, refl, ap, sym, _∙_}
+use mathlib.Core.Logic.{⊎-elim}
 use mathlib.Core.List.{List, [], _∷_, _++_, flatMap, append-assoc, append-nil}
-use lib.ListN.{length, drop, set, length-append, length-set}
+use lib.ListN.{length, take, drop, set, length-append, length-set, length-drop, drop-of-length-le}
 use lib.Seq.{sets, sets-eq}
+use borrow.Rule.Slice.PartMut.{midOf, putMid}
+use Rattle.laws.proofs.Tests.{below-or-not}
+use Rattle.csv.proofs.Reading.{rest-is}
 use Rattle.words.specs.Words.{written}
 use Rattle.network.specs.Bounds.{Bound}
 use Rattle.network.specs.BoundArrays.{bound-ends, bound-range}
@@ -36,6 +40,29 @@ sets-past (v ∷ vs) s i h = ap (λ (l : List ℕ). sets l (suc i) vs) (set-past
 -- of two numbers the first alone, where there is no place for the second
 pub half-stored : (s : List ℕ) (i a b : ℕ) → length s ≤ i + 1 → set s i a ≡ sets s i (a ∷ b ∷ [])
 half-stored s i a b h = sym (sets-past (b ∷ []) (set s i a) (suc i) (omega (arith, length-set s i a)))
+
+-- behind the first number of a list
+sets-behind : (x : ℕ) (xs vs : List ℕ) (i : ℕ) → sets (x ∷ xs) (suc i) vs ≡ x ∷ sets xs i vs
+sets-behind x xs [] i = refl
+sets-behind x xs (v ∷ vs) i = sets-behind x (set xs i v) vs (suc i)
+
+-- in the part from a place on
+sets-part : (m : ℕ) (s vs : List ℕ) → take m s ++ sets (drop m s) 0 vs ≡ sets s m vs
+sets-part zero s vs = refl
+sets-part (suc m) [] vs = sets-past vs [] 0 (omega arith) ∙ sym (sets-past vs [] (suc m) (omega arith))
+sets-part (suc m) (x ∷ xs) vs = ap (λ (l : List ℕ). x ∷ l) (sets-part m xs vs) ∙ sym (sets-behind x xs vs m)
+
+-- so what is stored in the part of a slice from place m on, or from its end on where that comes first
+pub part-stored : (vs s t : List ℕ) (m n : ℕ) → n ≡ min m (length s) → t ≡ sets (midOf n (length s - n) s) 0 vs → putMid n (length s - n) s t ≡ sets s m vs
+part-stored vs s t m n e q =
+    let none : drop (length s - n) (drop n s) ≡ [] = drop-of-length-le (drop n s) {i = length s - n} (omega (arith, length-drop n s)) in
+    ap (λ (x : List ℕ). take n s ++ (t ++ x)) none ∙ ap (λ (x : List ℕ). take n s ++ x) (append-nil t)
+    ∙ ap (λ (x : List ℕ). take n s ++ x) (q ∙ ap (λ (x : List ℕ). sets x 0 vs) (rest-is s n))
+    ∙ sets-part n s vs
+    ∙ ⊎-elim
+    (λ (l : m < length s). ap (λ (i : ℕ). sets s i vs) (e ∙ min-eq-left (omega arith)))
+    (λ (l : length s ≤ m). sets-past vs s n (omega (arith, e, min-eq-right l)) ∙ sym (sets-past vs s m l))
+    (below-or-not m (length s))
 
 -- what is stored from the first place on is written over the front
 pub front-stored : (vs s : List ℕ) → length vs ≤ length s → sets s (2 * 0) vs ≡ written vs s

@@ -1,7 +1,7 @@
 // Bounds in arrays. The events and bounds of a plan are defined in specs/.
 ghost use mathlib.Core.Path.{_≡_};
 ghost use mathlib.Core.List.{[], _∷_};
-ghost use Prim.Native.Nat.{_*_};
+ghost use Prim.Native.Nat.{_*_, min};
 ghost use lib.Seq.{sets};
 
 // Puts the ends of a bound in the k-th place of an array, as far as it goes.
@@ -47,4 +47,14 @@ pub fn put_bound(
 {
     put_ends(ends, k, from, to);
     put_range(ranges, k, lo, hi);
+}
+
+// Where the part of an array begins that is behind k bounds: at its end, if they would fill it.
+pub fn behind(k: usize, length: usize) -> usize
+    ensures { λ r. ⌜ r ≡ min (2 * k) length ⌝ }
+{
+    if k <= length / 2 {
+        return 2 * k;
+    }
+    length
 }
