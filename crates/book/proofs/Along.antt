@@ -30,7 +30,7 @@ waiting-count clock e zero = refl
 waiting-count clock e (suc n) = ap suc (waiting-count clock (suc e) n)
 
 -- and so one for each event
-pub cart-count : (clock : ℕ) (log : List Report) (c e n : ℕ) → length (cart-added clock log c e n) ≡ n
+cart-count : (clock : ℕ) (log : List Report) (c e n : ℕ) → length (cart-added clock log c e n) ≡ n
 unfolding cart-added
 cart-count clock log c e n =
     let rs : List Bound = reported-from e n (times-of c log) in
@@ -87,30 +87,8 @@ module _ (firsts : List ℕ) (carts clock : ℕ) (log : List Report) where
   along-last i h =
       let z : carts - i ≡ 0 = omega arith in ap (λ (n : ℕ). added-along clock log (suc i) (getD firsts i 0) (take n (drop (suc i) firsts))) z
 
-  -- no more than there are events
-  along-few : carts < length firsts → ((i : ℕ) → i < carts → getD firsts i 0 < getD firsts (i + 1) 0) → (m i : ℕ) → i + m ≡ carts
-      → getD firsts i 0 + length (along-from i) ≤ getD firsts carts 0
-  along-few l rise zero i e =
-      let same : getD firsts i 0 ≡ getD firsts carts 0 = ap (λ (n : ℕ). getD firsts n 0) (let q : i ≡ carts = omega arith in q) in
-      omega (arith, same, ap length (along-last i (omega arith)))
-  along-few l rise (suc m) i e =
-      let n : ℕ = getD firsts (i + 1) 0 - (getD firsts i 0 + 1) in
-      let one : List Bound = cart-added clock log (i + 1) (getD firsts i 0 + 1) n in
-      omega (
-        arith,
-        rise i (omega arith),
-        ap length (along-next i (omega arith) l),
-        length-append one (along-from (i + 1)),
-        cart-count clock log (i + 1) (getD firsts i 0 + 1) n,
-        along-few l rise m (i + 1) (omega arith),
-      )
-
-  pub all-few : carts < length firsts → ((i : ℕ) → i < carts → getD firsts i 0 < getD firsts (i + 1) 0) → length all-along ≤ getD firsts carts 0
-  all-few l rise = omega (arith, along-few l rise carts 0 (omega arith), ap length along-first)
-
   -- before the i-th cart: k bounds are put
   pub record Walking (s r t u : List ℕ) (k i : ℕ) : Type 0 where
-    pub within : i ≤ carts
     pub below : k ≤ getD firsts i 0
     pub counted : k + length (along-from i) ≡ length all-along
     pub putting : Putting s r t u 0 k all-along (along-from i)
@@ -118,7 +96,7 @@ module _ (firsts : List ℕ) (carts clock : ℕ) (log : List Report) where
   -- none is put yet
   pub first-walking : (s r : List ℕ) → Walking s r s r 0 0
   first-walking s r =
-      record { within = omega arith; below = omega arith; counted = omega (arith, ap length along-first); putting = put-none s r 0 0 all-along (along-from 0) refl along-first }
+      record { below = omega arith; counted = omega (arith, ap length along-first); putting = put-none s r 0 0 all-along (along-from 0) refl along-first }
 
   module _ (s r t u : List ℕ) (k i : ℕ) (w : Walking s r t u k i) where
     -- those of a cart are put
@@ -132,7 +110,6 @@ module _ (firsts : List ℕ) (carts clock : ℕ) (log : List Report) where
         let many : length one ≡ n = cart-count clock log (i + 1) (getD firsts i 0 + 1) n in
         let here : along-from i ≡ one ++ along-from (i + 1) = along-next i h l in
         record {
-          within = omega arith;
           below = omega (arith, w .below, rise);
           counted = omega (arith, w .counted, ap length here, length-append one (along-from (i + 1)), many);
           putting = put-more s r t u 0 k all-along (along-from i) (w .putting) one (along-from (i + 1)) here (k + n) (omega (arith, many)) t′ u′ a b;

@@ -10,7 +10,7 @@ use lib.Dec.{T, leb, leb→le}
 use lib.ListN.{length, getD, take, drop, replicate, length-append, length-map, length-drop}
 use lib.Seq.{sets, take-at, length-take-le}
 use mir.Facts.{and-yes}
-use borrow.Author.Tests.{not-true, not-false, le-leb, lt-leb}
+use borrow.Author.Tests.{not-true, not-false}
 use Rattle.words.specs.Words.{written}
 use Rattle.floor.specs.Plan.{Cart, Plan}
 use Rattle.tables.specs.Arrays.{paths-in}
@@ -18,7 +18,6 @@ use Rattle.tables.proofs.PathRecords.{paths-in-length}
 use Rattle.network.specs.Events.{visits-of, points, Route, routes, routes-of, route-points, event-count, finish-event}
 use Rattle.network.specs.Bounds.{Bound}
 use Rattle.network.specs.BoundArrays.{bound-ends, bound-range}
-use Rattle.network.proofs.BoundStores.{front-stored, by-ends, by-range, pairs-length}
 use Rattle.limits.specs.Limits.{of-paths}
 use Rattle.limits.specs.Orders.{first-events, events-fit, firsts-fitting}
 use Rattle.limits.proofs.Counts.{point-count, route-count}
@@ -28,11 +27,11 @@ use Rattle.schedule.specs.Added.{added-bounds}
 use Rattle.book.specs.declared.Added.{Added}
 use Rattle.book.specs.declared.Checked.{Checked}
 use Rattle.book.specs.declared.Replayed.{Replayed}
-use Rattle.book.specs.Log.{entries, log-book, is-book, checked, book-fitting, added-of, added-answer}
+use Rattle.book.specs.Log.{entries, log-book, is-book, checked, added-of, added-answer}
 use Rattle.book.specs.Replaying.{times-of, next-fits, time-fits, Firsts, Counted, replayed}
 use Rattle.book.proofs.Replays.{replayed-none, replayed-some, next-is}
-use Rattle.book.proofs.Starts.{first-most, firsts-rise}
-use Rattle.book.proofs.Along.{all-along, all-few}
+use Rattle.book.proofs.Starts.{firsts-rise}
+use Rattle.book.proofs.Along.{all-along}
 use Rattle.book.proofs.ByLog.{added-are, times-most}
 
 -- ---- what it is to fit
@@ -163,46 +162,12 @@ is-some o b e = ap is-book (sym e)
 
 -- what the writer answers and leaves: two arrays that were s and r and are t and u
 abbrev pub Wrote : Plan → Option Book → Added → List ℕ → List ℕ → List ℕ → List ℕ → Type 0
-Wrote p o x s r t u = (x ≡ added-answer p o) × ((t ≡ written (flatMap bound-ends (added-of p o)) s) × (u ≡ written (flatMap bound-range (added-of p o)) r))
+Wrote p o x s r t u = (x ≡ added-answer p o) × ((t ≡ sets s 0 (flatMap bound-ends (added-of p o))) × (u ≡ sets r 0 (flatMap bound-range (added-of p o))))
 
--- there is no book
-none-added : (p : Plan) (o : Option Book) (s r : List ℕ) → o ≡ none → Wrote p o Added.NoBook s r s r
-unfolding added-answer added-of written flatMap
+-- without a book
+pub none-added : (p : Plan) (o : Option Book) (s r : List ℕ) → o ≡ none → Wrote p o Added.NoBook s r s r
+unfolding added-answer added-of flatMap
 none-added p o s r e = subst (λ (x : Option Book). Wrote p x Added.NoBook s r s r) (sym e) (refl, (refl, refl))
-
-module _ (p : Plan) (o : Option Book) (s r : List ℕ) where
-  -- an array is too short
-  pub short-ends : length s < 8192 → Wrote p (book-fitting (length s) (length r) o) Added.NoBook s r s r
-  unfolding book-fitting
-  short-ends h = none-added p _ s r (ap (λ (b : Bool). cond (b && leb 8192 (length r)) o none) (lt-leb 8192 (length s) h))
-
-  pub short-ranges : 8192 ≤ length s → length r < 8192 → Wrote p (book-fitting (length s) (length r) o) Added.NoBook s r s r
-  unfolding book-fitting
-  short-ranges g h =
-      none-added p _ s r (ap (λ (b : Bool). cond (b && leb 8192 (length r)) o none) (le-leb 8192 (length s) g) ∙ ap (λ (b : Bool). cond b o none) (lt-leb 8192 (length r) h))
-
-  -- neither is
-  long : 8192 ≤ length s → 8192 ≤ length r → book-fitting (length s) (length r) o ≡ o
-  unfolding book-fitting
-  long g h = ap (λ (b : Bool). cond (b && leb 8192 (length r)) o none) (le-leb 8192 (length s) g) ∙ ap (λ (b : Bool). cond b o none) (le-leb 8192 (length r) h)
-
-  -- and there is no book
-  pub no-added : 8192 ≤ length s → 8192 ≤ length r → o ≡ none → Wrote p (book-fitting (length s) (length r) o) Added.NoBook s r s r
-  no-added g h e = none-added p _ s r (long g h ∙ e)
-
-  -- or there is
-  pub all-added : 8192 ≤ length s → 8192 ≤ length r → (b : Book) → o ≡ some b → (bs : List Bound) → added-bounds p b ≡ bs → length bs ≤ 4096 → (k : ℕ) (t u : List ℕ)
-      → (k ≡ length bs) × ((t ≡ sets s (2 * 0) (flatMap bound-ends bs)) × (u ≡ sets r (2 * 0) (flatMap bound-range bs)))
-      → Wrote p (book-fitting (length s) (length r) o) (Added.Count k) s r t u
-  unfolding added-answer added-of
-  all-added g h b e bs q few k t u w =
-      subst (λ (x : Option Book). Wrote p x (Added.Count k) s r t u) (sym (long g h ∙ e)) (
-        ap Added.Count (w .0 ∙ ap length (sym q)),
-        (
-          w .1 .0 ∙ front-stored (flatMap bound-ends bs) s (omega (arith, pairs-length bound-ends by-ends bs, few, g)) ∙ ap (λ (l : List Bound). written (flatMap bound-ends l) s) (sym q),
-          w .1 .1 ∙ front-stored (flatMap bound-range bs) r (omega (arith, pairs-length bound-range by-range bs, few, h)) ∙ ap (λ (l : List Bound). written (flatMap bound-range l) r) (sym q),
-        ),
-      )
 
 -- what is known of a log that is accepted: the book that it gives, with its clock, and the numbers in the array
 pub record Writing (n w : ℕ) (s cs ts fs : List ℕ) (t : ℕ) : Type 0 where
@@ -238,20 +203,18 @@ module _ (n w : ℕ) (s cs ts fs : List ℕ) (t : ℕ) (k : Writing n w s cs ts 
       (firsts-rise (plan n w s) n fs (k .firsts), times-most (plan n w s) (first-book (plan n w s)) (k .book) (entries cs ts) (k .replays))
 
   -- what it leaves
-  pub all-written : (a b : List ℕ) → 8192 ≤ length a → 8192 ≤ length b → (m : ℕ) (u v : List ℕ)
+  pub all-written : (a b : List ℕ) (m : ℕ) (u v : List ℕ)
       → (m ≡ length (all-along fs n t (entries cs ts)))
       × ((u ≡ sets a (2 * 0) (flatMap bound-ends (all-along fs n t (entries cs ts)))) × (v ≡ sets b (2 * 0) (flatMap bound-range (all-along fs n t (entries cs ts)))))
-      → Wrote (plan n w s) (book-fitting (length a) (length b) (log-book n w s cs ts)) (Added.Count m) a b u v
-  all-written a b g h m u v z =
-      let few : n ≤ 64 = k .few in
-      let long : length fs ≡ 65 = k .long in
+      → Wrote (plan n w s) (log-book n w s cs ts) (Added.Count m) a b u v
+  unfolding added-answer added-of
+  all-written a b m u v z =
       let are : added-bounds (plan n w s) (k .book) ≡ all-along fs n t (entries cs ts) =
       added-are (plan n w s) n fs (k .firsts) (entries cs ts) (k .book) (k .replays)
       ∙ ap (λ (x : ℕ). all-along fs n x (entries cs ts)) (k .clock-is) in
-      let most : length (all-along fs n t (entries cs ts)) ≤ getD fs n 0 =
-      all-few fs n t (entries cs ts) (omega arith) (λ i l. firsts-rise (plan n w s) n fs (k .firsts) i l .0) in
-      all-added (plan n w s) (log-book n w s cs ts) a b g h (k .book) (k .given) (all-along fs n t (entries cs ts)) are
-      (omega (arith, most, first-most (plan n w s) n fs (k .firsts) n (omega arith))) m u v z
+      subst (λ (o : Option Book). Wrote (plan n w s) o (Added.Count m) a b u v) (sym (k .given))
+      (subst (λ (bs : List Bound). (Added.Count m ≡ Added.Count (length bs)) × ((u ≡ sets a 0 (flatMap bound-ends bs)) × (v ≡ sets b 0 (flatMap bound-range bs)))) (sym are)
+      (ap Added.Count (z .0), z .1))
 
 -- ---- what it says of a report
 

@@ -14,8 +14,8 @@ use lib.Seq.{sets, length-sets}
 use Rattle.laws.proofs.Tests.{below-or-not}
 use Rattle.words.specs.Words.{word-at}
 use Rattle.network.specs.Bounds.{Bound}
-use Rattle.network.specs.BoundArrays.{bound-ends, hi-number, bound-range, has-place, with-pair}
-use Rattle.network.proofs.BoundStores.{by-ends, by-range, one-stored, more-stored, bound-stored, none-stored}
+use Rattle.network.specs.BoundArrays.{bound-ends, hi-number, bound-range}
+use Rattle.network.proofs.BoundStores.{by-ends, by-range, more-stored, none-stored}
 use Rattle.schedule.specs.Added.{reported-bound, clock-bound}
 use Rattle.book.specs.Log.{entries}
 use Rattle.book.specs.Replaying.{times-of}
@@ -167,8 +167,6 @@ times-none log times c i h = ap (λ (l : List ℕ). times-of c (entries l (drop 
 pub record Putting (s r t u : List ℕ) (k j : ℕ) (whole rest : List Bound) : Type 0 where
   pub ends : sets t (2 * j) (flatMap bound-ends rest) ≡ sets s (2 * k) (flatMap bound-ends whole)
   pub ranges : sets u (2 * j) (flatMap bound-range rest) ≡ sets r (2 * k) (flatMap bound-range whole)
-  pub ends-long : length t ≡ length s
-  pub ranges-long : length u ≡ length r
 
 -- none is put yet
 pub put-none : (s r : List ℕ) (k j : ℕ) (whole rest : List Bound) → j ≡ k → rest ≡ whole → Putting s r s r k j whole rest
@@ -176,38 +174,15 @@ put-none s r k j whole rest e q =
     record {
       ends = ap (λ (n : ℕ). sets s (2 * n) (flatMap bound-ends rest)) e ∙ ap (λ (l : List Bound). sets s (2 * k) (flatMap bound-ends l)) q;
       ranges = ap (λ (n : ℕ). sets r (2 * n) (flatMap bound-range rest)) e ∙ ap (λ (l : List Bound). sets r (2 * k) (flatMap bound-range l)) q;
-      ends-long = refl;
-      ranges-long = refl;
     }
 
 module _ (s r t u : List ℕ) (k j : ℕ) (whole rest : List Bound) (w : Putting s r t u k j whole rest) where
-  -- the same are still to be put
-  pub put-same : (more : List Bound) → rest ≡ more → Putting s r t u k j whole more
-  put-same more e =
-      record {
-        ends = ap (λ (l : List Bound). sets t (2 * j) (flatMap bound-ends l)) (sym e) ∙ w .ends;
-        ranges = ap (λ (l : List Bound). sets u (2 * j) (flatMap bound-range l)) (sym e) ∙ w .ranges;
-        ends-long = w .ends-long;
-        ranges-long = w .ranges-long;
-      }
-
-  -- the first of them is put
-  pub put-one : (b : Bound) (more : List Bound) → rest ≡ b ∷ more → (j′ : ℕ) → j′ ≡ j + 1 → 2 * j + 2 ≤ length s → 2 * j + 2 ≤ length r
-      → (t′ u′ : List ℕ) → t′ ≡ with-pair (has-place (length t) (length u) j) t j (bound-ends b) → u′ ≡ with-pair (has-place (length t) (length u) j) u j (bound-range b)
-      → Putting s r t′ u′ k j′ whole more
-  put-one b more e j′ next h g t′ u′ p q =
-      let there : 2 * j + 2 ≤ length t = omega (arith, w .ends-long) in
-      let here : 2 * j + 2 ≤ length u = omega (arith, w .ranges-long) in
-      let first : t′ ≡ sets t (2 * j) (bound-ends b) = bound-stored t u t t′ (bound-ends b) j there here p in
-      let second : u′ ≡ sets u (2 * j) (bound-range b) = bound-stored t u u u′ (bound-range b) j there here q in
-      record {
-        ends = ap (λ (n : ℕ). sets t′ (2 * n) (flatMap bound-ends more)) next ∙ one-stored bound-ends by-ends t t′ j b more first
-            ∙ ap (λ (l : List Bound). sets t (2 * j) (flatMap bound-ends l)) (sym e) ∙ w .ends;
-        ranges = ap (λ (n : ℕ). sets u′ (2 * n) (flatMap bound-range more)) next ∙ one-stored bound-range by-range u u′ j b more second
-            ∙ ap (λ (l : List Bound). sets u (2 * j) (flatMap bound-range l)) (sym e) ∙ w .ranges;
-        ends-long = ap length first ∙ length-sets t (2 * j) (bound-ends b) ∙ w .ends-long;
-        ranges-long = ap length second ∙ length-sets u (2 * j) (bound-range b) ∙ w .ranges-long;
-      }
+  -- no store changes a length
+  pub put-long : (length t ≡ length s) × (length u ≡ length r)
+  put-long = (
+    sym (length-sets t (2 * j) (flatMap bound-ends rest)) ∙ ap length (w .ends) ∙ length-sets s (2 * k) (flatMap bound-ends whole),
+    sym (length-sets u (2 * j) (flatMap bound-range rest)) ∙ ap length (w .ranges) ∙ length-sets r (2 * k) (flatMap bound-range whole),
+  )
 
   -- some of them are put
   pub put-more : (bs more : List Bound) → rest ≡ bs ++ more → (j′ : ℕ) → j′ ≡ j + length bs
@@ -217,8 +192,6 @@ module _ (s r t u : List ℕ) (k j : ℕ) (whole rest : List Bound) (w : Putting
       record {
         ends = more-stored bound-ends by-ends t t′ j j′ bs more next p ∙ ap (λ (l : List Bound). sets t (2 * j) (flatMap bound-ends l)) (sym e) ∙ w .ends;
         ranges = more-stored bound-range by-range u u′ j j′ bs more next q ∙ ap (λ (l : List Bound). sets u (2 * j) (flatMap bound-range l)) (sym e) ∙ w .ranges;
-        ends-long = ap length p ∙ length-sets t (2 * j) (flatMap bound-ends bs) ∙ w .ends-long;
-        ranges-long = ap length q ∙ length-sets u (2 * j) (flatMap bound-range bs) ∙ w .ranges-long;
       }
 
   -- all are put
@@ -238,16 +211,14 @@ report-none s r k bs e = (sym (ap length e), (none-stored bound-ends s (2 * k) b
 
 -- one bound is put
 pub report-one : (s r s′ r′ : List ℕ) (k e t : ℕ) (bs : List Bound) → bs ≡ reported-bound (record { event = e; time = t }) ∷ []
-    → 2 * k + 2 ≤ length s → 2 * k + 2 ≤ length r
-    → s′ ≡ with-pair (has-place (length s) (length r) k) s k (0 ∷ e ∷ []) → r′ ≡ with-pair (has-place (length s) (length r) k) r k (t ∷ (t + 1) ∷ [])
+    → s′ ≡ sets s (2 * k) (0 ∷ e ∷ []) → r′ ≡ sets r (2 * k) (t ∷ (t + 1) ∷ [])
     → (1 ≡ length bs) × ((s′ ≡ sets s (2 * k) (flatMap bound-ends bs)) × (r′ ≡ sets r (2 * k) (flatMap bound-range bs)))
 unfolding flatMap bound-ends bound-range reported-bound hi-number
-report-one s r s′ r′ k e t bs q h g a b = (
+report-one s r s′ r′ k e t bs q a b = (
   sym (ap length q),
   (
-    bound-stored s r s s′ (0 ∷ e ∷ []) k h g a ∙ ap (λ (l : List Bound). sets s (2 * k) (flatMap bound-ends l)) (sym q),
-    bound-stored s r r r′ (t ∷ (t + 1) ∷ []) k h g b ∙ ap (λ (n : ℕ). sets r (2 * k) (t ∷ n ∷ [])) (add-one t)
-        ∙ ap (λ (l : List Bound). sets r (2 * k) (flatMap bound-range l)) (sym q),
+    a ∙ ap (λ (l : List Bound). sets s (2 * k) (flatMap bound-ends l)) (sym q),
+    b ∙ ap (λ (n : ℕ). sets r (2 * k) (t ∷ n ∷ [])) (add-one t) ∙ ap (λ (l : List Bound). sets r (2 * k) (flatMap bound-range l)) (sym q),
   ),
 )
 

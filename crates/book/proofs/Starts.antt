@@ -114,7 +114,7 @@ module _ (p : Plan) (carts : ℕ) (firsts : List ℕ) (f : Firsts p carts firsts
       ∙ ap (λ (n : ℕ). n + getD (map (λ (r : Route). length (route-points r)) (routes-of p)) i 0) (sym (first-at i (omega arith)))
 
   -- none is over 4,096
-  pub first-most : (i : ℕ) → i ≤ carts → getD firsts i 0 ≤ 4096
+  first-most : (i : ℕ) → i ≤ carts → getD firsts i 0 ≤ 4096
   unfolding routes-of
   first-most i h =
       let far : getD firsts i 0 ≤ 1 + length (flatMap route-points (routes 1 1 (p .carts) (p .paths))) =

@@ -1,10 +1,9 @@
 -- The book that a log gives, and the bounds that it adds: what the code that replays it answers and writes, on all input.
 -- Assumes nothing.
 use Prim.Native.Nat.{ℕ}
-use mathlib.Core.Bool.{Bool, true, false, _&&_, cond}
+use mathlib.Core.Bool.{Bool, true, false, cond}
 use mathlib.Core.List.{List, [], _∷_}
 use mathlib.Core.Option.{Option, none, some}
-use lib.Dec.{leb}
 use lib.ListN.{length, take, drop}
 use Rattle.words.specs.Words.{little}
 use Rattle.floor.specs.Plan.{Plan}
@@ -38,10 +37,6 @@ unfoldable pub checked : Plan → Option Book → Report → Checked
 checked p none r = record { next = false; timely = false }
 checked p (some b) r = record { next = has-next p b r; timely = in-time b r }
 
--- the book, where two arrays have room for a bound for each of 4,096 events
-unfoldable pub book-fitting : ℕ → ℕ → Option Book → Option Book
-book-fitting ends ranges b = cond (leb 8192 ends && leb 8192 ranges) b none
-
 -- the bounds that it adds
 unfoldable pub added-of : Plan → Option Book → List Bound
 added-of p none = []
@@ -54,5 +49,5 @@ added-answer p (some b) = Added.Count (length (added-bounds p b))
 
 -- Names every definition of this module, for a proof that computes with them all.
 unfoldable pub open-log : Unit {0}
-unfolding entries log-book is-book checked book-fitting added-of added-answer
+unfolding entries log-book is-book checked added-of added-answer
 open-log = tt

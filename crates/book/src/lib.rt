@@ -5,12 +5,11 @@ mod writing;
 
 ghost use mathlib.Core.Path.{_≡_};
 ghost use mathlib.Core.List.{flatMap};
-ghost use lib.ListN.{length};
-ghost use Rattle.words.specs.Words.{written};
+ghost use lib.Seq.{sets};
 ghost use Rattle.tables.specs.Arrays.{paths-in};
 ghost use Rattle.network.specs.BoundArrays.{bound-ends, bound-range};
 ghost use Rattle.limits.specs.Limits.{of-paths};
-ghost use Rattle.book.specs.Log.{log-book, is-book, checked, book-fitting, added-of, added-answer};
+ghost use Rattle.book.specs.Log.{log-book, is-book, checked, added-of, added-answer};
 ghost use Rattle.schedule.specs.Book.{_at_};
 
 // What the writer of added bounds answers: how many there are.
@@ -80,7 +79,7 @@ pub fn check_report(
     }
 }
 
-// Writes the bounds that the book of a log adds to the front of two arrays.
+// Writes the bounds that the book of a log adds to the front of two arrays, as many as there is room for; answers how many there are.
 pub fn write_added(
     cells: &[u32],
     carts: usize,
@@ -90,16 +89,10 @@ pub fn write_added(
     ends: &mut [u16],
     ranges: &mut [u64],
 ) -> Added
-    ensures answer { λ r. ⌜ r ≡ added-answer (of-paths (paths-in carts steps (now (cells .entry)))) (book-fitting (length (now (ends .entry))) (length (now (ranges .entry))) (log-book carts steps (now (cells .entry)) (now (log .entry)) (now (times .entry)))) ⌝ }
-    ensures left { λ _. ⌜ now (ends .exit) ≡ written (flatMap bound-ends (added-of (of-paths (paths-in carts steps (now (cells .entry)))) (book-fitting (length (now (ends .entry))) (length (now (ranges .entry))) (log-book carts steps (now (cells .entry)) (now (log .entry)) (now (times .entry)))))) (now (ends .entry)) ⌝ }
-    ensures left_ranges { λ _. ⌜ now (ranges .exit) ≡ written (flatMap bound-range (added-of (of-paths (paths-in carts steps (now (cells .entry)))) (book-fitting (length (now (ends .entry))) (length (now (ranges .entry))) (log-book carts steps (now (cells .entry)) (now (log .entry)) (now (times .entry)))))) (now (ranges .entry)) ⌝ }
+    ensures answer { λ r. ⌜ r ≡ added-answer (of-paths (paths-in carts steps (now (cells .entry)))) (log-book carts steps (now (cells .entry)) (now (log .entry)) (now (times .entry))) ⌝ }
+    ensures left { λ _. ⌜ now (ends .exit) ≡ sets (now (ends .entry)) 0 (flatMap bound-ends (added-of (of-paths (paths-in carts steps (now (cells .entry)))) (log-book carts steps (now (cells .entry)) (now (log .entry)) (now (times .entry))))) ⌝ }
+    ensures left_ranges { λ _. ⌜ now (ranges .exit) ≡ sets (now (ranges .entry)) 0 (flatMap bound-range (added-of (of-paths (paths-in carts steps (now (cells .entry)))) (log-book carts steps (now (cells .entry)) (now (log .entry)) (now (times .entry))))) ⌝ }
 {
-    if ends.len() < 8192 {
-        return Added::NoBook;
-    }
-    if ranges.len() < 8192 {
-        return Added::NoBook;
-    }
     let mut firsts = [0u16; 65];
     if !limits::first_events(cells, carts, steps, &mut firsts) {
         return Added::NoBook;

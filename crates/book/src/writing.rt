@@ -1,7 +1,7 @@
 // The bounds that a book adds, cart by cart: [time, time] for each event reported, and [clock, none] for each that is still to be passed.
 ghost use mathlib.Core.Path.{_≡_};
 ghost use mathlib.Core.List.{List·Memᴰ, flatMap};
-ghost use Prim.Native.Nat.{ℕ, suc, _+_, _*_, _-_, _≤_, _<_};
+ghost use Prim.Native.Nat.{ℕ, _+_, _*_, _-_, _≤_, _<_};
 ghost use lib.ListN.{length, getD, take, drop};
 ghost use lib.Seq.{sets};
 ghost use Rattle.words.specs.Words.{word-at};
@@ -23,7 +23,6 @@ fn put_report(
     ranges: &mut [u64],
 ) -> usize
     requires { ⌜ (i < length (now log)) × (at ≤ 4096) × (getD (now log) i 0 ≡ c → word-at 8 (now times) i ≤ 1000000000000) ⌝ }
-    requires { ⌜ (at < next → (2 * k + 2 ≤ length (now ends)) × (2 * k + 2 ≤ length (now ranges))) ⌝ }
     ensures answer { λ r. ⌜ r ≡ length (one-reported (now (log .entry)) (now (times .entry)) i c at next) ⌝ }
     ensures left { λ _. ⌜ now (ends .exit) ≡ sets (now (ends .entry)) (2 * k) (flatMap bound-ends (one-reported (now (log .entry)) (now (times .entry)) i c at next)) ⌝ }
     ensures left_ranges { λ _. ⌜ now (ranges .exit) ≡ sets (now (ranges .entry)) (2 * k) (flatMap bound-range (one-reported (now (log .entry)) (now (times .entry)) i c at next)) ⌝ }
@@ -51,7 +50,6 @@ fn put_reported(
     ranges: &mut [u64],
 ) -> usize
     requires { ⌜ (e ≤ next) × (next ≤ 4096) × (k ≤ 4096) ⌝ }
-    requires { ⌜ (2 * (k + (next - e)) ≤ length (now ends)) × (2 * (k + (next - e)) ≤ length (now ranges)) ⌝ }
     requires { ⌜ ((t : ℕ) → List·Memᴰ t (times-of c (entries (now log) (now times))) → t ≤ 1000000000000) ⌝ }
     ensures answer { λ r. ⌜ r ≡ length (reported-from e (next - e) (times-of c (entries (now (log .entry)) (now (times .entry))))) ⌝ }
     ensures left { λ _. ⌜ now (ends .exit) ≡ sets (now (ends .entry)) (2 * k) (flatMap bound-ends (reported-from e (next - e) (times-of c (entries (now (log .entry)) (now (times .entry)))))) ⌝ }
@@ -76,7 +74,6 @@ fn put_waiting(
     ranges: &mut [u64],
 )
     requires { ⌜ (first ≤ next) × (next ≤ 4096) × (k ≤ 8192) ⌝ }
-    requires { ⌜ (2 * (k + (next - first)) ≤ length (now ends)) × (2 * (k + (next - first)) ≤ length (now ranges)) ⌝ }
     ensures left { λ _. ⌜ now (ends .exit) ≡ sets (now (ends .entry)) (2 * k) (flatMap bound-ends (waiting-from clock first (next - first))) ⌝ }
     ensures left_ranges { λ _. ⌜ now (ranges .exit) ≡ sets (now (ranges .entry)) (2 * k) (flatMap bound-range (waiting-from clock first (next - first))) ⌝ }
 {
@@ -100,7 +97,6 @@ fn put_cart(
     ranges: &mut [u64],
 )
     requires { ⌜ (e ≤ next) × (next ≤ 4096) × (k ≤ 4096) ⌝ }
-    requires { ⌜ (2 * (k + (next - e)) ≤ length (now ends)) × (2 * (k + (next - e)) ≤ length (now ranges)) ⌝ }
     requires { ⌜ ((t : ℕ) → List·Memᴰ t (times-of c (entries (now log) (now times))) → t ≤ 1000000000000) ⌝ }
     ensures left { λ _. ⌜ now (ends .exit) ≡ sets (now (ends .entry)) (2 * k) (flatMap bound-ends (cart-added clock (entries (now (log .entry)) (now (times .entry))) c e (next - e))) ⌝ }
     ensures left_ranges { λ _. ⌜ now (ranges .exit) ≡ sets (now (ranges .entry)) (2 * k) (flatMap bound-range (cart-added clock (entries (now (log .entry)) (now (times .entry))) c e (next - e))) ⌝ }
@@ -119,7 +115,7 @@ pub(crate) fn write_all(
     ends: &mut [u16],
     ranges: &mut [u64],
 ) -> usize
-    requires { ⌜ (carts ≤ 64) × (carts < length (now firsts)) × (8192 ≤ length (now ends)) × (8192 ≤ length (now ranges)) ⌝ }
+    requires { ⌜ (carts ≤ 64) × (carts < length (now firsts)) ⌝ }
     requires { ⌜ ((i : ℕ) → i < carts → (getD (now firsts) i 0 < getD (now firsts) (i + 1) 0) × (getD (now firsts) (i + 1) 0 ≤ 4096)) ⌝ }
     requires { ⌜ ((c t : ℕ) → List·Memᴰ t (times-of c (entries (now log) (now times))) → t ≤ 1000000000000) ⌝ }
     ensures answer { λ r. ⌜ r ≡ length (added-along clock (entries (now (log .entry)) (now (times .entry))) 1 (getD (now (firsts .entry)) 0 0) (take carts (drop 1 (now (firsts .entry))))) ⌝ }

@@ -1,19 +1,11 @@
--- `book::write_added` meets its contract: an array is short, there is no book, or its bounds are written. Assumes nothing.
+-- `book::write_added` meets its contract: there is no book, or its bounds are written. Assumes nothing.
 use Prim.Native.Nat.{_≤_}
 use native.Mathlib.Omega.{arith}
 use mathlib.Core.Path.{refl}
 use borrow.Author.Needs.{needs}
-use Rattle.book.proofs.Fitting.{plan, unfit-book, fits-few, short-ends, short-ranges, no-added, refused-book, Writing, writing-of, writing-asks, all-written}
+use Rattle.book.proofs.Fitting.{plan, unfit-book, fits-few, refused-book, none-added, Writing, writing-of, writing-asks, all-written}
 use Rattle.book.proofs.write_added.Statement.{statement}
 use Rattle.book.proofs.write_added.Tie as tie
-
-returns : tie.Need-returns
-returns c = let a = c .before .before .before .before .before .before .args in short-ends (plan (a .carts) (a .steps) (a .cells .now)) _ (a .ends .now) (a .ranges .now) (c .if1 .taken)
-
-returns-2 : tie.Need-returns-2
-returns-2 c =
-    let a = c .before .before .before .before .before .before .before .args in
-    short-ranges (plan (a .carts) (a .steps) (a .cells .now)) _ (a .ends .now) (a .ranges .now) (c .before .if1 .left) (c .if2 .taken)
 
 slice-aggregate-first-events : tie.Need-slice-aggregate-first-events
 slice-aggregate-first-events c = search needs
@@ -21,13 +13,12 @@ slice-aggregate-first-events c = search needs
 first-events-requires : tie.Need-first-events-requires
 first-events-requires c κs = search needs
 
-returns-3 : tie.Need-returns-3
-returns-3 c =
+returns : tie.Need-returns
+returns c =
     let f = c .before .before in
-    let e = f .before .before in
-    let a = e .before .before .before .before .before .before .before .args in
-    no-added (plan (a .carts) (a .steps) (a .cells .now)) _ (a .ends .now) (a .ranges .now) (e .before .if1 .left) (e .if2 .left)
-    (unfit-book (a .carts) (a .steps) (a .cells .now) (a .log .now) (a .times .now) (f .first-events .result) (f .first-events .ensures .0) (c .if3 .taken))
+    let a = f .before .before .before .before .before .before .before .args in
+    none-added (plan (a .carts) (a .steps) (a .cells .now)) _ (a .ends .now) (a .ranges .now)
+    (unfit-book (a .carts) (a .steps) (a .cells .now) (a .log .now) (a .times .now) (f .first-events .result) (f .first-events .ensures .0) (c .if1 .taken))
 
 slice-aggregate-replay : tie.Need-slice-aggregate-replay
 slice-aggregate-replay c = search needs
@@ -38,8 +29,8 @@ slice-aggregate-replay-2 c = search needs
 replay-requires : tie.Need-replay-requires
 replay-requires c κs =
     let f = c .before .before .before .before in
-    let a = f .before .before .before .before .before .before .before .before .before .args in
-    let few : a .carts ≤ 64 = fits-few (a .carts) (a .steps) (a .cells .now) (f .first-events .result) (f .first-events .ensures .0) (c .before .before .if3 .left) in
+    let a = f .before .before .before .before .before .before .before .args in
+    let few : a .carts ≤ 64 = fits-few (a .carts) (a .steps) (a .cells .now) (f .first-events .result) (f .first-events .ensures .0) (c .before .before .if1 .left) in
     (few, omega (arith, few, f .first-events .kept .1 .1 .1 .0), refl)
 
 enum-told : tie.Need-enum-told
@@ -54,30 +45,27 @@ slice-aggregate-write-all c = search needs
 -- what is known before the bounds are written
 known : (k : tie.After-known-told)
     → (let r = k .before .before .before .before in let f = r .before .before .before .before .before in
-    let a = f .before .before .before .before .before .before .before .before .before .args in
+    let a = f .before .before .before .before .before .before .before .args in
     Writing (a .carts) (a .steps) (a .cells .now) (a .log .now) (a .times .now) (f .first-events .last .1 .1 .1 .0) (k .before .x .given .0 .0))
 known k =
     let r = k .before .before .before .before in
     let f = r .before .before .before .before .before in
-    let a = f .before .before .before .before .before .before .before .before .before .args in
-    writing-of (a .carts) (a .steps) (a .cells .now) (a .log .now) (a .times .now) (f .first-events .result) (f .first-events .ensures .0) (r .before .before .before .if3 .left) _
+    let a = f .before .before .before .before .before .before .before .args in
+    writing-of (a .carts) (a .steps) (a .cells .now) (a .log .now) (a .times .now) (f .first-events .result) (f .first-events .ensures .0) (r .before .before .before .if1 .left) _
     (f .first-events .ensures .1) (f .first-events .kept .1 .1 .1 .0) (r .replay .result) (r .replay .ensures .0) _ (k .before .x .given .1)
 
 write-all-requires : tie.Need-write-all-requires
 write-all-requires c κs =
-    let k = c .before .before .before in
-    let w = known k in
-    let e = k .before .before .before .before .before .before .before .before .before .before .before in
-    ((w .few, omega (arith, w .few, w .long), e .before .if1 .left, e .if2 .left), writing-asks _ _ _ _ _ _ _ w)
+    let w = known (c .before .before .before) in
+    ((w .few, omega (arith, w .few, w .long)), writing-asks _ _ _ _ _ _ _ w)
 
-returns-4 : tie.Need-returns-4
-returns-4 c =
+returns-2 : tie.Need-returns-2
+returns-2 c =
     let r = c .before .before .before in
     let f = r .before .before .before .before .before in
-    let e = f .before .before in
-    let a = e .before .before .before .before .before .before .before .args in
-    no-added (plan (a .carts) (a .steps) (a .cells .now)) _ (a .ends .now) (a .ranges .now) (e .before .if1 .left) (e .if2 .left)
-    (refused-book (a .carts) (a .steps) (a .cells .now) (a .log .now) (a .times .now) (f .first-events .result) (f .first-events .ensures .0) (r .before .before .before .if3 .left) _
+    let a = f .before .before .before .before .before .before .before .args in
+    none-added (plan (a .carts) (a .steps) (a .cells .now)) _ (a .ends .now) (a .ranges .now)
+    (refused-book (a .carts) (a .steps) (a .cells .now) (a .log .now) (a .times .now) (f .first-events .result) (f .first-events .ensures .0) (r .before .before .before .if1 .left) _
     (f .first-events .ensures .1) (r .replay .result) (r .replay .ensures .0) (c .enum-told .given .1))
 
 same-length : tie.Need-same-length
@@ -86,23 +74,18 @@ same-length c = search needs
 same-length-2 : tie.Need-same-length-2
 same-length-2 c = search needs
 
-returns-5 : tie.Need-returns-5
-returns-5 c =
-    let a = c .before .before .before .before in
-    let k = a .before .before .before .before in
-    let e = k .before .before .before .before .before .before .before .before .before .before .before in
-    let s = e .before .before .before .before .before .before .before .args in
-    all-written _ _ _ _ _ _ _ (known k) (s .ends .now) (s .ranges .now) (e .before .if1 .left) (e .if2 .left) _ _ _ (a .write-all .ensures)
+returns-3 : tie.Need-returns-3
+returns-3 c =
+    let w = c .before .before .before .before in
+    all-written _ _ _ _ _ _ _ (known (w .before .before .before .before)) _ _ _ _ _ (w .write-all .ensures)
 
 pub write-added-spec : {M : Type 1} → statement M
 write-added-spec =
     tie.close
     (tie.spec
-    returns
-    returns-2
     slice-aggregate-first-events
     first-events-requires
-    returns-3
+    returns
     slice-aggregate-replay
     slice-aggregate-replay-2
     replay-requires
@@ -110,7 +93,7 @@ write-added-spec =
     enum-known-x
     slice-aggregate-write-all
     write-all-requires
-    returns-4
+    returns-2
     same-length
     same-length-2
-    returns-5)
+    returns-3)

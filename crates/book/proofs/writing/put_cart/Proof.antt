@@ -28,7 +28,7 @@ add-put-waiting-2 c = omega (arith, few (c .before .before .before .before))
 put-waiting-requires : tie.Need-put-waiting-requires
 put-waiting-requires c κs =
     let p = c .before .before .before .before .before .before in
-    ((omega (arith, few p), omega arith, omega (arith, few p)), (omega (arith, few p, p .put-reported .kept .1 .1 .1 .1 .1 .1 .0), omega (arith, few p, p .put-reported .kept .1 .1 .1 .1 .1 .1 .1 .0)))
+    (omega (arith, few p), omega arith, omega (arith, few p))
 
 same-length : tie.Need-same-length
 same-length c = search needs

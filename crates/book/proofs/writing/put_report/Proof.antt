@@ -15,13 +15,13 @@ returns : tie.Need-returns
 returns c =
     let s = c .before .before .before .before .before .before in
     let a = s .args in
-    report-none (a .ends .now) (a .ranges .now) (a .k) _ (one-other (a .log .now) (a .times .now) (a .c) (a .i) (s .pre .0 .0) (a .at) (a .next) (c .if1 .taken))
+    report-none (a .ends .now) (a .ranges .now) (a .k) _ (one-other (a .log .now) (a .times .now) (a .c) (a .i) (s .pre .0) (a .at) (a .next) (c .if1 .taken))
 
 returns-2 : tie.Need-returns-2
 returns-2 c =
     let s = c .before .before .before .before .before .before .before in
     let a = s .args in
-    report-none (a .ends .now) (a .ranges .now) (a .k) _ (one-full (a .log .now) (a .times .now) (a .c) (a .i) (s .pre .0 .0) (a .at) (a .next) (c .if2 .taken))
+    report-none (a .ends .now) (a .ranges .now) (a .k) _ (one-full (a .log .now) (a .times .now) (a .c) (a .i) (s .pre .0) (a .at) (a .next) (c .if2 .taken))
 
 get64-requires : tie.Need-get64-requires
 get64-requires c κs = search needs
@@ -33,7 +33,7 @@ add-put-bound : tie.Need-add-put-bound
 add-put-bound c =
     let g = c .before .before in
     let s = g .before .before .before .before .before .before .before .before in
-    omega (arith, g .get64 .ensures, s .pre .0 .2 (g .before .before .if1 .left))
+    omega (arith, g .get64 .ensures, s .pre .2 (g .before .before .if1 .left))
 
 put-bound-requires : tie.Need-put-bound-requires
 put-bound-requires c κs = search needs
@@ -50,10 +50,9 @@ returns-3 c =
     let g = b .before .before .before in
     let s = g .before .before .before .before .before .before .before .before in
     let a = s .args in
-    let room = s .pre .1 (g .before .if2 .left) in
     report-one (a .ends .now) (a .ranges .now) _ _ (a .k) (a .at) (g .get64 .result) _
-    (one-put (a .log .now) (a .times .now) (a .c) (a .i) (s .pre .0 .0) (a .at) (a .next) (g .before .before .if1 .left) (g .before .if2 .left) (g .get64 .result) (g .get64 .ensures))
-    (room .0) (room .1) (b .put-bound .ensures .0) (b .put-bound .ensures .1)
+    (one-put (a .log .now) (a .times .now) (a .c) (a .i) (s .pre .0) (a .at) (a .next) (g .before .before .if1 .left) (g .before .if2 .left) (g .get64 .result) (g .get64 .ensures))
+    (b .put-bound .ensures .0) (b .put-bound .ensures .1)
 
 pub put-report-spec : {M : Type 1} → statement M
 put-report-spec =

@@ -1,14 +1,8 @@
 -- `book::writing::put_reported` meets its contract: one report after the other is put, if it is of the cart. Assumes nothing.
-use Prim.Native.Nat.{ℕ, _+_, _*_, _-_, _≤_}
+use Prim.Native.Nat.{_+_, _-_}
 use native.Mathlib.Omega.{arith}
-use mathlib.Core.Path.{_≡_, refl, ap, sym, _∙_}
-use mathlib.Core.List.{List·Memᴰ}
-use lib.ListN.{length, drop}
-use borrow.Author.Needs.{needs}
-use Rattle.book.specs.Log.{entries}
-use Rattle.book.specs.Replaying.{times-of}
-use Rattle.book.specs.Writing.{reported-from, one-reported}
-use Rattle.book.proofs.Reported.{Putting, put-none, put-more, Reporting, first-reporting, next-reporting, last-reporting, here-most, one-most}
+use lib.ListN.{length}
+use Rattle.book.proofs.Reported.{put-long, Reporting, first-reporting, next-reporting, last-reporting, here-most, one-most}
 use Rattle.book.proofs.writing.put_reported.Statement.{statement}
 use Rattle.book.proofs.writing.put_reported.Tie as tie
 
@@ -22,7 +16,7 @@ loop-holds : tie.Need-loop-holds Inv-loop μ-loop
 loop-holds c =
     let s = c .before .before .before .before in
     let a = s .args in
-    first-reporting (a .log .now) (a .times .now) (a .c) (a .e) (a .next) (a .k) (a .ends .now) (a .ranges .now) (s .pre .1 .1)
+    first-reporting (a .log .now) (a .times .now) (a .c) (a .e) (a .next) (a .k) (a .ends .now) (a .ranges .now) (s .pre .1)
 
 add-put-report : tie.Need-add-put-report Inv-loop μ-loop
 add-put-report c = omega (arith, c .before .loop .inv .within)
@@ -35,10 +29,8 @@ put-report-requires c κs =
     let t = c .before .before in
     let l = t .before .loop in
     let s = t .before .before .before .before .before .before in
-    let a = s .args in (
-      (t .loop-test .taken, omega (arith, l .inv .within), here-most (a .log .now) (a .times .now) (a .c) (l .i) (t .loop-test .taken) (l .inv .in-range)),
-      λ h. (omega (arith, l .inv .putting .ends-long), omega (arith, l .inv .putting .ranges-long)),
-    )
+    let a = s .args in
+    (t .loop-test .taken, omega (arith, l .inv .within), here-most (a .log .now) (a .times .now) (a .c) (l .i) (t .loop-test .taken) (l .inv .in-range))
 
 add-n : tie.Need-add-n Inv-loop μ-loop
 add-n c =
@@ -64,10 +56,10 @@ loop-again c =
     (p .put-report .result) (p .put-report .ensures .0) _ _ (p .put-report .ensures .1 .0) (p .put-report .ensures .1 .1)
 
 same-length : tie.Need-same-length Inv-loop μ-loop
-same-length c = c .before .loop .inv .putting .ends-long
+same-length c = put-long _ _ _ _ _ _ _ _ (c .before .loop .inv .putting) .0
 
 same-length-2 : tie.Need-same-length-2 Inv-loop μ-loop
-same-length-2 c = c .before .loop .inv .putting .ranges-long
+same-length-2 c = put-long _ _ _ _ _ _ _ _ (c .before .loop .inv .putting) .1
 
 returns : tie.Need-returns Inv-loop μ-loop
 returns c =

@@ -1,10 +1,9 @@
 -- `book::writing::write_all` meets its contract: the bounds of one cart after the other are put. Assumes nothing.
 use Prim.Native.Nat.{_+_, _-_, _≤_, _<_}
 use native.Mathlib.Omega.{arith}
-use mathlib.Core.Path.{_≡_}
-use lib.ListN.{length, getD}
-use borrow.Author.Needs.{needs}
+use lib.ListN.{getD}
 use Rattle.book.specs.Log.{entries}
+use Rattle.book.proofs.Reported.{put-long}
 use Rattle.book.proofs.Along.{Walking, first-walking, next-walking, last-walking}
 use Rattle.book.proofs.writing.write_all.Statement.{statement}
 use Rattle.book.proofs.writing.write_all.Tie as tie
@@ -58,13 +57,8 @@ put-cart-requires c κs =
     let t = c .before .before .before .before in
     let l = t .before .loop in
     let s = t .before .before .before .before .before .before .before in
-    let (less, most) = rising t in (
-      (omega (arith, less), most, omega (arith, less, most, l .inv .below)),
-      (
-        (omega (arith, less, most, l .inv .below, l .inv .putting .ends-long), omega (arith, less, most, l .inv .below, l .inv .putting .ranges-long)),
-        s .pre .1 .1 (l .i + 1),
-      ),
-    )
+    let (less, most) = rising t in
+    ((omega (arith, less), most, omega (arith, less, most, l .inv .below)), s .pre .1 .1 (l .i + 1))
 
 sub-k : tie.Need-sub-k Inv-loop μ-loop
 sub-k c = let (l, m) = rising (c .before .before .before .before .before .before .before .before .before) in omega (arith, l)
@@ -92,10 +86,10 @@ loop-again c =
     (t .loop-test .taken) (s .pre .0 .1) (rising t .0) _ _ (p .put-cart .ensures .0) (p .put-cart .ensures .1)
 
 same-length : tie.Need-same-length Inv-loop μ-loop
-same-length c = c .before .loop .inv .putting .ends-long
+same-length c = put-long _ _ _ _ _ _ _ _ (c .before .loop .inv .putting) .0
 
 same-length-2 : tie.Need-same-length-2 Inv-loop μ-loop
-same-length-2 c = c .before .loop .inv .putting .ranges-long
+same-length-2 c = put-long _ _ _ _ _ _ _ _ (c .before .loop .inv .putting) .1
 
 returns : tie.Need-returns Inv-loop μ-loop
 returns c =
