@@ -3,12 +3,9 @@ use Prim.Native.Nat.{ℕ, _+_, _*_, _-_, _≤_, _<_}
 use native.Mathlib.Nat.{add-zero, sub-zero}
 use native.Mathlib.Omega.{arith}
 use mathlib.Core.Path.{_≡_, ap, sym, _∙_}
-use mathlib.Core.List.{List, [], _∷_, _++_, map, flatMap, append-assoc, append-nil}
-use lib.ListN.{length, take, drop, getD, length-drop, drop-of-length-le}
-use lib.Seq.{sets, sets-eq, drop-drop}
-use borrow.Rule.Slice.PartMut.{midOf, putMid}
-use Rattle.csv.proofs.Reading.{rest-is}
-use Rattle.words.specs.Words.{written}
+use mathlib.Core.List.{List, [], _∷_, map, flatMap, append-nil}
+use lib.ListN.{length, take, drop, getD}
+use lib.Seq.{sets}
 use Rattle.limits.proofs.CountSteps.{steps-from, steps-cons, steps-none}
 use Rattle.network.specs.Bounds.{Bound}
 use Rattle.network.proofs.BoundStores.{Pairs, one-stored, none-stored}
@@ -50,15 +47,3 @@ module _ (g : Bound → List ℕ) (p : Pairs g) (f : ℕ → Bound) (s : List �
   -- all are
   pub row-last : at + n ≤ length s → (t : List ℕ) (i : ℕ) → n ≤ i → t ≡ sets t (2 * (k + i)) (flatMap g (map f (steps-from s at n i)))
   row-last fits t i l = none-stored g t (2 * (k + i)) (map f (steps-from s at n i)) (ap (map f) (steps-none s at n fits i l))
-
--- ---- into the part of a slice from a place on
-
--- what is written over the front of that part is stored from there on
-pub part-stored : (vs s t : List ℕ) (m : ℕ) → m + length vs ≤ length s → t ≡ written vs (midOf m (length s - m) s) → putMid m (length s - m) s t ≡ sets s m vs
-unfolding written
-part-stored vs s t m h q =
-    let none : drop (length s - m) (drop m s) ≡ [] = drop-of-length-le (drop m s) {i = length s - m} (omega (arith, length-drop m s)) in
-    ap (λ (x : List ℕ). take m s ++ (t ++ x)) none ∙ ap (λ (x : List ℕ). take m s ++ x) (append-nil t)
-    ∙ ap (λ (x : List ℕ). take m s ++ x) (q ∙ ap (λ (x : List ℕ). vs ++ drop (length vs) x) (rest-is s m) ∙ ap (λ (x : List ℕ). vs ++ x) (drop-drop (length vs) m s))
-    ∙ sym (append-assoc (take m s) vs (drop (m + length vs) s))
-    ∙ sym (sets-eq vs s m h)

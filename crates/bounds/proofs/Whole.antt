@@ -6,33 +6,31 @@ use native.Mathlib.Omega.{arith}
 use mathlib.Core.Path.{_≡_, refl, ap, ap₂, sym, _∙_, subst}
 use mathlib.Core.Bool.{Bool, true, false, _&&_, cond}
 use mathlib.Core.List.{List, [], _∷_, _++_, map, flatMap}
-use mathlib.Core.Option.{none, some}
-use lib.Dec.{T, leb}
-use lib.ListN.{length, take, drop, getD, length-take, length-drop}
+use mathlib.Core.Option.{some}
+use lib.Dec.{leb}
+use lib.ListN.{length, take, drop, getD, length-take}
 use lib.Seq.{sets, take-nil, take-take, getD-take}
-use borrow.Rule.Slice.PartMut.{midOf, putMid}
-use borrow.Author.Tests.{leb-true, le-leb}
+use borrow.Author.Tests.{le-leb}
 use Rattle.words.specs.Words.{written}
 use Rattle.words.proofs.Reading.{written-front}
-use Rattle.csv.proofs.Reading.{rest-is}
 use Rattle.floor.specs.Plan.{Cart, Plan}
 use Rattle.tables.specs.Arrays.{roads-in, carts-in, paths-in}
 use Rattle.tables.proofs.CartRecords.{carts-in-length}
 use Rattle.tables.proofs.PathRecords.{paths-in-length}
 use Rattle.network.specs.Events.{route-points, routes, routes-of, event-count, last-event, finish-event}
 use Rattle.network.specs.Bounds.{Bound, start-bounds, travel-bounds, order-bounds, no-earlier, finish-bounds, bounds}
-use Rattle.limits.specs.Limits.{of-paths, limits-kept, paths-within}
+use Rattle.limits.specs.Limits.{of-paths}
 use Rattle.limits.specs.Counts.{total, moves}
-use Rattle.limits.specs.Orders.{first-events, events-fit, firsts-fitting, orders-fitting}
-use Rattle.limits.proofs.Counts.{path-points, events-are, route-count, travels-count, start-count, bounds-are, limits-by-paths}
+use Rattle.limits.specs.Orders.{first-events, events-kept, events-fit, firsts-fitting, orders-fitting}
+use Rattle.limits.proofs.Counts.{path-points, events-are, route-count, travels-count, start-count, bounds-are}
 use Rattle.limits.proofs.LimitSteps.{all-events}
-use Rattle.limits.proofs.Firsts.{firsts-from, first-events-are, firsts-count}
+use Rattle.limits.proofs.Firsts.{firsts-from, first-events-are, firsts-count, kept-says}
+use Rattle.limits.proofs.OrderSteps.{orders-numbered}
 use Rattle.limits.proofs.RowBounds.{of-paths-carts, orders-by-paths, order-count-is}
 use Rattle.bounds.specs.declared.Network.{Network}
 use Rattle.bounds.specs.Network.{Numbers, plan-in, network-answer}
 use Rattle.bounds.specs.Writing.{start-to, finish-before}
-use Rattle.network.proofs.BoundStores.{Pairs, pairs-length, more-stored, front-stored}
-use Rattle.bounds.proofs.Stores.{part-stored}
+use Rattle.network.proofs.BoundStores.{Pairs, more-stored}
 
 -- ---- by first events
 
@@ -81,29 +79,6 @@ firsts-some (p ∷ ps) e (suc i) h l = firsts-some ps (e + path-points p) i (ome
 
 -- ---- what fits
 
--- two tests that pass
-both : (a b : Bool) → (a && b) ≡ true → (a ≡ true) × (b ≡ true)
-both true b e = (refl, e)
-both false b e = absurd (subst T (sym e) tt)
-
--- paths within the limits
-pub within-says : (n w : ℕ) (s : List ℕ) → paths-within n w s ≡ true
-    → (n ≤ 64) × (w ≤ 1024) × (n * w ≤ length s) × (limits-kept (of-paths (paths-in n w s)) ≡ true)
-unfolding paths-within
-within-says n w s e =
-    let kept : Bool = limits-kept (of-paths (paths-in n w s)) in
-    let (x, k) = both (leb n 64 && leb w 1024 && leb (n * w) (length s)) kept e in
-    let (y, there) = both (leb n 64 && leb w 1024) (leb (n * w) (length s)) x in
-    let (carts, steps) = both (leb n 64) (leb w 1024) y in
-    (leb-true n 64 carts, leb-true w 1024 steps, leb-true (n * w) (length s) there, k)
-
--- limits that are kept
-kept-says : (p : Plan) → limits-kept p ≡ true → (event-count p ≤ 4096) × (length (bounds p) ≤ 8192)
-unfolding limits-kept
-kept-says p e =
-    let (x, y) = both (leb (event-count p) 4096) (leb (length (bounds p)) 8192) e in
-    (leb-true (event-count p) 4096 x, leb-true (length (bounds p)) 8192 y)
-
 -- the first of a list without its head
 drop-take : (n : ℕ) (l : List ℕ) → drop 1 (take (suc n) l) ≡ take n (drop 1 l)
 drop-take n [] = sym (take-nil n)
@@ -136,21 +111,12 @@ module _ (roads carts w : ℕ) (a : Numbers) where
       let p : Plan = plan-in roads carts w a in
       omega (arith, bounds-are p even, order-count-is p even, ap (λ (os : List Bound). length os) orders-are, paths-in-length carts w (a .cells))
 
-  module _ (within : paths-within carts w (a .cells) ≡ true) (o : 1 ≤ w) where
-    -- sizes: carts, steps, cells, events and bounds
-    pub sizes : (carts ≤ 64) × (w ≤ 1024) × (carts * w ≤ length (a .cells)) × (1 + carts + 3 * total moves paths ≤ 4096)
-        × (carts + 3 * total moves paths + length (order-bounds (routes-of (of-paths paths))) + carts ≤ 8192)
-    unfolding plan-in
-    sizes =
-        let (few, short, there, kept) = within-says carts w (a .cells) within in
-        let p : Plan = plan-in roads carts w a in
-        let (events, count) = kept-says p (limits-by-paths p even ∙ kept) in (
-          few,
-          short,
-          there,
-          omega (arith, events, events-are p even, all-events carts w (a .cells) o there),
-          omega (arith, count, bounds-count),
-        )
+  -- sizes: carts, steps, cells, events and order bounds
+  pub sizes : events-kept carts w (a .cells) ≡ true
+      → ((carts ≤ 64) × (1 ≤ w) × (w ≤ 1024) × (carts * w ≤ length (a .cells))) × (2 + carts + 3 * total moves paths ≤ 4096) × (length (order-bounds (routes-of (of-paths paths))) ≤ 90112)
+  sizes e =
+      let (few, events) = kept-says carts w (a .cells) true (sym e) refl in
+      (few, events, orders-numbered carts w (a .cells) (few .0) (omega (arith, few .0, events)))
 
   module _ (firsts : List ℕ) (held : take (carts + 1) firsts ≡ first-events (of-paths paths)) where
     -- the numbers of the carts' first events, and the finish's
@@ -180,13 +146,11 @@ module _ (roads carts w : ℕ) (a : Numbers) where
         ∙ omega (arith, events-are (plan-in roads carts w a) even)
 
     -- it is small
-    pub finish-small : paths-within carts w (a .cells) ≡ true → getD firsts carts 0 ≤ 4096
+    pub finish-small : events-kept carts w (a .cells) ≡ true → getD firsts carts 0 ≤ 4096
     unfolding plan-in finish-event
-    finish-small within =
-        let p : Plan = plan-in roads carts w a in
-        let (_, _, _, kept) = within-says carts w (a .cells) within in
-        let (events, _) = kept-says p (limits-by-paths p even ∙ kept) in
-        omega (arith, finish-at, events)
+    finish-small kept =
+        let (few, events, _) = sizes kept in
+        omega (arith, finish-at, events, events-are (plan-in roads carts w a) even, all-events carts w (a .cells) (few .1) (few .3))
 
     -- the answer
     pub answered : (n : ℕ) → n ≡ length (bounds (plan-in roads carts w a)) → Network.Bounds (getD firsts carts 0 + 1) n ≡ network-answer (some (plan-in roads carts w a))
@@ -219,15 +183,14 @@ module _ (roads carts w : ℕ) (a : Numbers) where
 
     -- all bounds, one sort behind the other
     pub whole-written : (g : Bound → List ℕ) → Pairs g → (s t u v x : List ℕ) (k j : ℕ)
-        → 2 * (carts + 3 * total moves paths + length (order-bounds (routes-of (of-paths paths))) + carts) ≤ length s
         → k ≡ carts + 3 * total moves paths → j ≡ k + length (order-bounds (routes-of (of-paths paths)))
         → t ≡ sets s (2 * 0) (flatMap g (map start-to (take carts firsts)))
         → u ≡ sets t (2 * carts) (flatMap g (travel-bounds (roads-in roads (a .edges)) (routes 1 1 (carts-in carts (a .speeds)) paths)))
         → v ≡ sets u (2 * k) (flatMap g (order-bounds (routes-of (of-paths paths))))
         → x ≡ sets v (2 * j) (flatMap g (map (finish-before (getD firsts carts 0)) (take carts (drop 1 firsts))))
-        → x ≡ written (flatMap g (bounds (plan-in roads carts w a))) s
+        → x ≡ sets s 0 (flatMap g (bounds (plan-in roads carts w a)))
     unfolding bounds plan-in routes-of
-    whole-written g p s t u v x k j room hk hj one two three four =
+    whole-written g p s t u v x k j hk hj one two three four =
         let q : Plan = plan-in roads carts w a in
         let starts : List Bound = start-bounds (routes-of q) in
         let travel : List Bound = travel-bounds (q .roads) (routes-of q) in
@@ -237,58 +200,37 @@ module _ (roads carts w : ℕ) (a : Numbers) where
         let a0 : carts ≡ 0 + length starts = omega (arith, start-count (routes-of q), route-count (q .carts) (q .paths) 1 1 even, paths-in-length carts w (a .cells)) in
         let a1 : k ≡ carts + length travel = omega (arith, hk, travels-count (q .roads) (q .carts) (q .paths) 1 1 even) in
         let a2 : j ≡ k + length orders = omega (arith, hj, same) in
-        let size : length (flatMap g (bounds q)) ≤ length s = omega (arith, room, pairs-length g p (bounds q), bounds-count) in
         four ∙ ap (λ (bs : List Bound). sets v (2 * j) (flatMap g bs)) finishes-are
         ∙ more-stored g p u v k j orders finishes a2 (three ∙ ap (λ (bs : List Bound). sets u (2 * k) (flatMap g bs)) orders-are)
         ∙ more-stored g p t u carts k travel (orders ++ finishes) a1 two
         ∙ more-stored g p s t 0 carts starts (travel ++ (orders ++ finishes)) a0 (one ∙ ap (λ (bs : List Bound). sets s (2 * 0) (flatMap g bs)) starts-are)
-        ∙ front-stored (flatMap g (bounds q)) s size
 
 -- ---- first events
 
--- they are written where the limits are kept
-pub firsts-held : (n w : ℕ) (s z fs : List ℕ) → paths-within n w s ≡ true → 1 ≤ w → n < length z → fs ≡ written (firsts-fitting n w s (length z)) z
+-- 65 places are enough for them
+pub fit-there : (n w : ℕ) (s : List ℕ) → events-fit n w s 65 ≡ events-kept n w s
+unfolding events-fit
+fit-there n w s = by (events-kept n w s) refl
+  where
+    by : (b : Bool) → events-kept n w s ≡ b → (b && leb (suc n) 65) ≡ b
+    by false e = refl
+    by true e = le-leb (suc n) 65 (omega (arith, kept-says n w s true (sym e) refl .0 .0))
+
+-- so they are written where the limit is kept
+pub firsts-held : (n w : ℕ) (s z fs : List ℕ) → events-kept n w s ≡ true → fs ≡ written (firsts-fitting n w s 65) z
     → take (n + 1) fs ≡ first-events (of-paths (paths-in n w s))
-unfolding firsts-fitting events-fit of-paths
-firsts-held n w s z fs within o room q =
-    let (few, short, there, kept) = within-says n w s within in
-    let (events, _) = kept-says (of-paths (paths-in n w s)) kept in
+unfolding firsts-fitting of-paths
+firsts-held n w s z fs kept q =
     let front : List ℕ = first-events (of-paths (paths-in n w s)) in
-    let fit : events-fit n w s (length z) ≡ true =
-    simp (le-leb n 64 few, le-leb 1 w o, le-leb w 1024 short, le-leb (n * w) (length s) there, le-leb (event-count (of-paths (paths-in n w s))) 4096 events, le-leb (suc n) (length z) room) in
     let count : n + 1 ≡ length front =
     omega (arith, ap (λ (x : List ℕ). length x) (first-events-are (of-paths (paths-in n w s)) (of-paths-carts (paths-in n w s))), firsts-count (paths-in n w s) 1, paths-in-length n w s) in
-    ap (take (n + 1)) (q ∙ ap (λ (b : Bool). written (cond b front []) z) fit)
+    ap (take (n + 1)) (q ∙ ap (λ (b : Bool). written (cond b front []) z) (fit-there n w s ∙ kept))
     ∙ ap (λ (i : ℕ). take i (written front z)) count
     ∙ written-front front z
 
 -- ---- order bounds
 
--- how long the part of a slice from a place on is
-part-length : (s : List ℕ) (m : ℕ) → length (midOf m (length s - m) s) ≡ length s - m
-part-length s m = ap (λ (x : List ℕ). length x) (rest-is s m) ∙ length-drop m s
-
-module _ (n w : ℕ) (s : List ℕ) (k : ℕ) (ends ranges : List ℕ) where
-  -- the order bounds
-  abbrev ordered : List Bound
-  ordered = order-bounds (routes-of (of-paths (paths-in n w s)))
-
-  -- those that are written to the parts of two slices behind k bounds
-  abbrev written-there : List Bound
-  written-there = orders-fitting n w s (length (midOf (2 * k) (length ends - 2 * k) ends)) (length (midOf (2 * k) (length ranges - 2 * k) ranges))
-
-  module _ (within : paths-within n w s ≡ true) (o : 1 ≤ w) (h : 2 * (k + length ordered) ≤ length ends) (l : 2 * (k + length ordered) ≤ length ranges) where
-    -- all of them are
-    pub orders-fit : written-there ≡ ordered
-    unfolding orders-fitting
-    orders-fit =
-        let e : 2 * length ordered ≤ length (midOf (2 * k) (length ends - 2 * k) ends) = omega (arith, part-length ends (2 * k)) in
-        let r : 2 * length ordered ≤ length (midOf (2 * k) (length ranges - 2 * k) ranges) = omega (arith, part-length ranges (2 * k)) in
-        simp (le-leb 1 w o, within, le-leb (2 * length ordered) (length (midOf (2 * k) (length ends - 2 * k) ends)) e, le-leb (2 * length ordered) (length (midOf (2 * k) (length ranges - 2 * k) ranges)) r)
-
-    -- stored in one of them
-    pub orders-stored : (g : Bound → List ℕ) → Pairs g → (x t : List ℕ) → 2 * (k + length ordered) ≤ length x
-        → t ≡ written (flatMap g written-there) (midOf (2 * k) (length x - 2 * k) x) → putMid (2 * k) (length x - 2 * k) x t ≡ sets x (2 * k) (flatMap g ordered)
-    orders-stored g p x t room q =
-        part-stored (flatMap g ordered) x t (2 * k) (omega (arith, room, pairs-length g p ordered))
-        (q ∙ ap (λ (bs : List Bound). written (flatMap g bs) (midOf (2 * k) (length x - 2 * k) x)) orders-fit)
+-- where the limit is kept, those that are written are all
+pub orders-there : (n w : ℕ) (s : List ℕ) → events-kept n w s ≡ true → orders-fitting n w s ≡ order-bounds (routes-of (of-paths (paths-in n w s)))
+unfolding orders-fitting
+orders-there n w s kept = ap (λ (b : Bool). cond b (order-bounds (routes-of (of-paths (paths-in n w s)))) []) kept

@@ -10,7 +10,7 @@ use Rattle.floor.specs.Plan.{Plan}
 use Rattle.tables.specs.Arrays.{roads-in, carts-in, paths-in}
 use Rattle.network.specs.Events.{event-count}
 use Rattle.network.specs.Bounds.{Bound, bounds}
-use Rattle.limits.specs.Limits.{paths-within}
+use Rattle.limits.specs.Orders.{events-kept}
 use Rattle.bounds.specs.declared.Network.{Network}
 
 -- the arrays of a plan, as the reader of the tables leaves them: four places a road, two a cart, one a path cell
@@ -24,15 +24,14 @@ unfoldable pub plan-in : ℕ → ℕ → ℕ → Numbers → Plan
 plan-in roads carts w a =
     record { roads = roads-in roads (a .edges); carts = carts-in carts (a .speeds); paths = paths-in carts w (a .cells) }
 
--- all of it is there, the limits are kept, and two arrays have room for 8,192 bounds
-unfoldable pub network-fits : ℕ → ℕ → ℕ → Numbers → ℕ → ℕ → Bool
-network-fits roads carts w a ends ranges =
-    leb roads 1024 && leb (4 * roads) (length (a .edges)) && leb (2 * carts) (length (a .speeds)) && leb 1 w && paths-within carts w (a .cells)
-    && leb 16_384 ends && leb 16_384 ranges
+-- all of it is there, and the limits but that of bounds are kept
+unfoldable pub network-fits : ℕ → ℕ → ℕ → Numbers → Bool
+network-fits roads carts w a =
+    leb roads 1024 && leb (4 * roads) (length (a .edges)) && leb (2 * carts) (length (a .speeds)) && events-kept carts w (a .cells)
 
 -- the plan, where it fits
-unfoldable pub plan-fitting : ℕ → ℕ → ℕ → Numbers → ℕ → ℕ → Option Plan
-plan-fitting roads carts w a ends ranges = cond (network-fits roads carts w a ends ranges) (some (plan-in roads carts w a)) none
+unfoldable pub plan-fitting : ℕ → ℕ → ℕ → Numbers → Option Plan
+plan-fitting roads carts w a = cond (network-fits roads carts w a) (some (plan-in roads carts w a)) none
 
 -- how many events and bounds there are
 unfoldable pub network-answer : Option Plan → Network

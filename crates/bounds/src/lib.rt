@@ -5,17 +5,15 @@ mod travel;
 ghost use mathlib.Core.Path.{_≡_};
 ghost use mathlib.Core.Bool.{true};
 ghost use mathlib.Core.List.{[], _∷_, map, flatMap};
-ghost use mathlib.Core.Option.{some};
 ghost use Prim.Native.Nat.{ℕ, _+_, _*_, _≤_, _<_};
 ghost use lib.ListN.{length, take, drop, getD};
 ghost use lib.Seq.{sets};
-ghost use Rattle.words.specs.Words.{written};
 ghost use Rattle.tables.specs.Arrays.{paths-in};
 ghost use Rattle.network.specs.Events.{routes-of};
 ghost use Rattle.network.specs.Bounds.{order-bounds, bounds};
 ghost use Rattle.network.specs.BoundArrays.{bound-ends, bound-range};
-ghost use Rattle.limits.specs.Limits.{of-paths, paths-within};
-ghost use Rattle.limits.specs.Orders.{first-events};
+ghost use Rattle.limits.specs.Limits.{of-paths};
+ghost use Rattle.limits.specs.Orders.{first-events, events-kept};
 ghost use Rattle.bounds.specs.Network.{plan-in, plan-fitting, network-answer, network-bounds};
 ghost use Rattle.bounds.specs.Writing.{start-to, finish-before};
 
@@ -31,9 +29,8 @@ struct Track {
     margin: u32,
 }
 
-// Puts a bound in the k-th place of two arrays that have one.
+// Puts a bound in the k-th place of two arrays.
 fn put_bound(ends: &mut [u16], ranges: &mut [u64], k: usize, from: u16, to: u16, lo: u64, hi: u64)
-    requires { ⌜ (2 * k + 2 ≤ length (now ends)) × (2 * k + 2 ≤ length (now ranges)) ⌝ }
     ensures { λ _. ⌜ now (ends .exit) ≡ sets (now (ends .entry)) (2 * k) (from ∷ to ∷ []) ⌝ }
     ensures { λ _. ⌜ now (ranges .exit) ≡ sets (now (ranges .entry)) (2 * k) (lo ∷ hi ∷ []) ⌝ }
 {
@@ -43,7 +40,6 @@ fn put_bound(ends: &mut [u16], ranges: &mut [u64], k: usize, from: u16, to: u16,
 // Puts the start bounds in two arrays, from the k-th place on.
 fn write_starts(firsts: &[u16], carts: usize, k: usize, ends: &mut [u16], ranges: &mut [u64])
     requires { ⌜ (carts ≤ 64) × (k ≤ 8192) × (carts ≤ length (now firsts)) ⌝ }
-    requires { ⌜ (2 * (k + carts) ≤ length (now ends)) × (2 * (k + carts) ≤ length (now ranges)) ⌝ }
     ensures { λ _. ⌜ now (ends .exit) ≡ sets (now (ends .entry)) (2 * k) (flatMap bound-ends (map start-to (take carts (now (firsts .entry))))) ⌝ }
     ensures { λ _. ⌜ now (ranges .exit) ≡ sets (now (ranges .entry)) (2 * k) (flatMap bound-range (map start-to (take carts (now (firsts .entry))))) ⌝ }
 {
@@ -56,9 +52,8 @@ fn write_starts(firsts: &[u16], carts: usize, k: usize, ends: &mut [u16], ranges
 
 // Puts the finish bounds in two arrays, from the k-th place on. A cart's last event stands before the next cart's first, or the finish.
 fn write_finishes(firsts: &[u16], carts: usize, k: usize, ends: &mut [u16], ranges: &mut [u64])
-    requires { ⌜ (carts ≤ 64) × (k ≤ 8192) × (carts < length (now firsts)) ⌝ }
+    requires { ⌜ (carts ≤ 64) × (k ≤ 98304) × (carts < length (now firsts)) ⌝ }
     requires { ⌜ ((i : ℕ) → i < carts → 0 < getD (now firsts) (i + 1) 0) ⌝ }
-    requires { ⌜ (2 * (k + carts) ≤ length (now ends)) × (2 * (k + carts) ≤ length (now ranges)) ⌝ }
     ensures { λ _. ⌜ now (ends .exit) ≡ sets (now (ends .entry)) (2 * k)
         (flatMap bound-ends (map (finish-before (getD (now (firsts .entry)) carts 0)) (take carts (drop 1 (now (firsts .entry)))))) ⌝ }
     ensures { λ _. ⌜ now (ranges .exit) ≡ sets (now (ranges .entry)) (2 * k)
@@ -82,18 +77,17 @@ fn write_orders(
     ends: &mut [u16],
     ranges: &mut [u64],
 ) -> usize
-    requires { ⌜ (1 ≤ steps) × (paths-within carts steps (now cells) ≡ true) × (k ≤ 8192) ⌝ }
-    requires { ⌜ 2 * (k + length (order-bounds (routes-of (of-paths (paths-in carts steps (now cells)))))) ≤ length (now ends) ⌝ }
-    requires { ⌜ 2 * (k + length (order-bounds (routes-of (of-paths (paths-in carts steps (now cells)))))) ≤ length (now ranges) ⌝ }
+    requires { ⌜ (events-kept carts steps (now cells) ≡ true) × (k ≤ 8192) ⌝ }
     ensures { λ r. ⌜ r ≡ k + length (order-bounds (routes-of (of-paths (paths-in carts steps (now (cells .entry)))))) ⌝ }
     ensures { λ _. ⌜ now (ends .exit) ≡ sets (now (ends .entry)) (2 * k) (flatMap bound-ends (order-bounds (routes-of (of-paths (paths-in carts steps (now (cells .entry))))))) ⌝ }
     ensures { λ _. ⌜ now (ranges .exit) ≡ sets (now (ranges .entry)) (2 * k) (flatMap bound-range (order-bounds (routes-of (of-paths (paths-in carts steps (now (cells .entry))))))) ⌝ }
 {
-    let at = 2 * k;
-    k + limits::order_bounds(cells, carts, steps, &mut ends[at..], &mut ranges[at..])
+    let n = network::behind(k, ends.len());
+    let m = network::behind(k, ranges.len());
+    k + limits::order_bounds(cells, carts, steps, &mut ends[n..], &mut ranges[m..])
 }
 
-// Writes all bounds to the front of two arrays, by the numbers of the carts' first events and of the finish; returns how many there are.
+// Writes all bounds to the front of two arrays, as many as there is room for, by the numbers of the carts' first events and of the finish; returns how many there are.
 fn write_all(
     edges: &[u32],
     speeds: &[u32],
@@ -106,12 +100,11 @@ fn write_all(
     ranges: &mut [u64],
 ) -> usize
     requires { ⌜ (roads ≤ 1024) × (4 * roads ≤ length (now edges)) × (2 * carts ≤ length (now speeds)) ⌝ }
-    requires { ⌜ (1 ≤ steps) × (paths-within carts steps (now cells) ≡ true) ⌝ }
+    requires { ⌜ events-kept carts steps (now cells) ≡ true ⌝ }
     requires { ⌜ take (carts + 1) (now firsts) ≡ first-events (of-paths (paths-in carts steps (now cells))) ⌝ }
-    requires { ⌜ (16_384 ≤ length (now ends)) × (16_384 ≤ length (now ranges)) ⌝ }
     ensures { λ r. ⌜ r ≡ length (bounds (plan-in roads carts steps (record { edges = now (edges .entry); speeds = now (speeds .entry); cells = now (cells .entry) }))) ⌝ }
-    ensures { λ _. ⌜ now (ends .exit) ≡ written (flatMap bound-ends (bounds (plan-in roads carts steps (record { edges = now (edges .entry); speeds = now (speeds .entry); cells = now (cells .entry) })))) (now (ends .entry)) ⌝ }
-    ensures { λ _. ⌜ now (ranges .exit) ≡ written (flatMap bound-range (bounds (plan-in roads carts steps (record { edges = now (edges .entry); speeds = now (speeds .entry); cells = now (cells .entry) })))) (now (ranges .entry)) ⌝ }
+    ensures { λ _. ⌜ now (ends .exit) ≡ sets (now (ends .entry)) 0 (flatMap bound-ends (bounds (plan-in roads carts steps (record { edges = now (edges .entry); speeds = now (speeds .entry); cells = now (cells .entry) })))) ⌝ }
+    ensures { λ _. ⌜ now (ranges .exit) ≡ sets (now (ranges .entry)) 0 (flatMap bound-range (bounds (plan-in roads carts steps (record { edges = now (edges .entry); speeds = now (speeds .entry); cells = now (cells .entry) })))) ⌝ }
 {
     write_starts(firsts, carts, 0, ends, ranges);
     let k = travel::write_travel(
@@ -130,8 +123,8 @@ fn write_all(
     j + carts
 }
 
-// The same for a plan that fits; answers the number of events too.
-fn write_fitting(
+// Writes the bounds of a plan to the front of two arrays, as many as there is room for: start, travel, order and finish bounds.
+pub fn write_bounds(
     edges: &[u32],
     speeds: &[u32],
     cells: &[u32],
@@ -141,15 +134,23 @@ fn write_fitting(
     ends: &mut [u16],
     ranges: &mut [u64],
 ) -> Network
-    requires { ⌜ (roads ≤ 1024) × (4 * roads ≤ length (now edges)) × (2 * carts ≤ length (now speeds)) ⌝ }
-    requires { ⌜ (1 ≤ steps) × (paths-within carts steps (now cells) ≡ true) ⌝ }
-    requires { ⌜ (16_384 ≤ length (now ends)) × (16_384 ≤ length (now ranges)) ⌝ }
-    ensures { λ r. ⌜ r ≡ network-answer (some (plan-in roads carts steps (record { edges = now (edges .entry); speeds = now (speeds .entry); cells = now (cells .entry) }))) ⌝ }
-    ensures { λ _. ⌜ now (ends .exit) ≡ written (flatMap bound-ends (bounds (plan-in roads carts steps (record { edges = now (edges .entry); speeds = now (speeds .entry); cells = now (cells .entry) })))) (now (ends .entry)) ⌝ }
-    ensures { λ _. ⌜ now (ranges .exit) ≡ written (flatMap bound-range (bounds (plan-in roads carts steps (record { edges = now (edges .entry); speeds = now (speeds .entry); cells = now (cells .entry) })))) (now (ranges .entry)) ⌝ }
+    ensures answer { λ r. ⌜ r ≡ network-answer (plan-fitting roads carts steps (record { edges = now (edges .entry); speeds = now (speeds .entry); cells = now (cells .entry) })) ⌝ }
+    ensures left { λ _. ⌜ now (ends .exit) ≡ sets (now (ends .entry)) 0 (flatMap bound-ends (network-bounds (plan-fitting roads carts steps (record { edges = now (edges .entry); speeds = now (speeds .entry); cells = now (cells .entry) })))) ⌝ }
+    ensures left_ranges { λ _. ⌜ now (ranges .exit) ≡ sets (now (ranges .entry)) 0 (flatMap bound-range (network-bounds (plan-fitting roads carts steps (record { edges = now (edges .entry); speeds = now (speeds .entry); cells = now (cells .entry) })))) ⌝ }
 {
+    if 1024 < roads {
+        return Network::Unfit;
+    }
+    if edges.len() < 4 * roads {
+        return Network::Unfit;
+    }
     let mut firsts = [0u16; 65];
-    limits::first_events(cells, carts, steps, &mut firsts);
+    if !limits::first_events(cells, carts, steps, &mut firsts) {
+        return Network::Unfit;
+    }
+    if speeds.len() < 2 * carts {
+        return Network::Unfit;
+    }
     let n = write_all(
         edges,
         speeds,
@@ -166,43 +167,4 @@ fn write_fitting(
         events: last + 1,
         bounds: n,
     }
-}
-
-// Writes the bounds of a plan to the front of two arrays: start, travel, order and finish bounds.
-pub fn write_bounds(
-    edges: &[u32],
-    speeds: &[u32],
-    cells: &[u32],
-    roads: usize,
-    carts: usize,
-    steps: usize,
-    ends: &mut [u16],
-    ranges: &mut [u64],
-) -> Network
-    ensures answer { λ r. ⌜ r ≡ network-answer (plan-fitting roads carts steps (record { edges = now (edges .entry); speeds = now (speeds .entry); cells = now (cells .entry) }) (length (now (ends .entry))) (length (now (ranges .entry)))) ⌝ }
-    ensures left { λ _. ⌜ now (ends .exit) ≡ written (flatMap bound-ends (network-bounds (plan-fitting roads carts steps (record { edges = now (edges .entry); speeds = now (speeds .entry); cells = now (cells .entry) }) (length (now (ends .entry))) (length (now (ranges .entry)))))) (now (ends .entry)) ⌝ }
-    ensures left_ranges { λ _. ⌜ now (ranges .exit) ≡ written (flatMap bound-range (network-bounds (plan-fitting roads carts steps (record { edges = now (edges .entry); speeds = now (speeds .entry); cells = now (cells .entry) }) (length (now (ends .entry))) (length (now (ranges .entry)))))) (now (ranges .entry)) ⌝ }
-{
-    if 1024 < roads {
-        return Network::Unfit;
-    }
-    if edges.len() < 4 * roads {
-        return Network::Unfit;
-    }
-    if steps == 0 {
-        return Network::Unfit;
-    }
-    if !limits::within_limits(cells, carts, steps) {
-        return Network::Unfit;
-    }
-    if speeds.len() < 2 * carts {
-        return Network::Unfit;
-    }
-    if ends.len() < 16_384 {
-        return Network::Unfit;
-    }
-    if ranges.len() < 16_384 {
-        return Network::Unfit;
-    }
-    write_fitting(edges, speeds, cells, roads, carts, steps, ends, ranges)
 }

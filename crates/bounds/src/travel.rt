@@ -123,7 +123,7 @@ fn put_part(
     ends: &mut [u16],
     ranges: &mut [u64],
 )
-    requires { ⌜ (e + 1 ≤ 4096) × (2 * k + 2 ≤ length (now ends)) × (2 * k + 2 ≤ length (now ranges)) ⌝ }
+    requires { ⌜ e + 1 ≤ 4096 ⌝ }
     ensures { λ _. ⌜ now (ends .exit) ≡ sets (now (ends .entry)) (2 * k) (bound-ends (part-bound (cart-of fastest slowest) e part)) ⌝ }
     ensures { λ _. ⌜ now (ranges .exit) ≡ sets (now (ranges .entry)) (2 * k) (bound-range (part-bound (cart-of fastest slowest) e part)) ⌝ }
 {
@@ -143,7 +143,7 @@ fn put_parts(
     ends: &mut [u16],
     ranges: &mut [u64],
 )
-    requires { ⌜ (e + 3 ≤ 4096) × (2 * (k + 3) ≤ length (now ends)) × (2 * (k + 3) ≤ length (now ranges)) ⌝ }
+    requires { ⌜ (e + 3 ≤ 4096) × (k + 3 ≤ 8192) ⌝ }
     ensures { λ _. ⌜ now (ends .exit) ≡ sets (now (ends .entry)) (2 * k)
         (flatMap bound-ends (move-bounds (cart-of fastest slowest) e (road-of (track .length) (track .margin)))) ⌝ }
     ensures { λ _. ⌜ now (ranges .exit) ≡ sets (now (ranges .entry)) (2 * k)
@@ -176,7 +176,7 @@ fn put_move(
 )
     requires { ⌜ (roads ≤ 1024) × (4 * roads ≤ length (now edges)) ⌝ }
     requires { ⌜ RoadsLinked roads (now edges) (now heads) (now nexts) ⌝ }
-    requires { ⌜ (e + 3 ≤ 4096) × (2 * (k + 3) ≤ length (now ends)) × (2 * (k + 3) ≤ length (now ranges)) ⌝ }
+    requires { ⌜ (e + 3 ≤ 4096) × (k + 3 ≤ 8192) ⌝ }
     ensures { λ _. ⌜ now (ends .exit) ≡ sets (now (ends .entry)) (2 * k)
         (flatMap bound-ends (move-bounds (cart-of fastest slowest) e (road-found (roads-in roads (now (edges .entry))) a b))) ⌝ }
     ensures { λ _. ⌜ now (ranges .exit) ≡ sets (now (ranges .entry)) (2 * k)
@@ -205,7 +205,6 @@ fn travel_of(
     requires { ⌜ (roads ≤ 1024) × (4 * roads ≤ length (now edges)) × (1 ≤ steps) × (at + steps ≤ length (now cells)) ⌝ }
     requires { ⌜ RoadsLinked roads (now edges) (now heads) (now nexts) ⌝ }
     requires { ⌜ (e + 3 * moves (take steps (drop at (now cells))) ≤ 4096) × (k + 3 * moves (take steps (drop at (now cells))) ≤ 8192) ⌝ }
-    requires { ⌜ (16_384 ≤ length (now ends)) × (16_384 ≤ length (now ranges)) ⌝ }
     ensures { λ r. ⌜ r ≡ k + 3 * moves (take steps (drop at (now (cells .entry)))) ⌝ }
     ensures { λ _. ⌜ now (ends .exit) ≡ sets (now (ends .entry)) (2 * k)
         (flatMap bound-ends (path-bounds (roads-in roads (now (edges .entry))) (cart-of fastest slowest) e (take steps (drop at (now (cells .entry)))))) ⌝ }
@@ -261,7 +260,6 @@ fn travel_of_all(
     requires { ⌜ (1 ≤ steps) × (steps ≤ 1024) × (carts * steps ≤ length (now cells)) ⌝ }
     requires { ⌜ 1 + carts + 3 * total moves (paths-in carts steps (now cells)) ≤ 4096 ⌝ }
     requires { ⌜ k + 3 * total moves (paths-in carts steps (now cells)) ≤ 8192 ⌝ }
-    requires { ⌜ (16_384 ≤ length (now ends)) × (16_384 ≤ length (now ranges)) ⌝ }
     ensures { λ r. ⌜ r ≡ k + 3 * total moves (paths-in carts steps (now (cells .entry))) ⌝ }
     ensures { λ _. ⌜ now (ends .exit) ≡ sets (now (ends .entry)) (2 * k)
         (flatMap bound-ends (travel-bounds (roads-in roads (now (edges .entry))) (routes 1 1 (carts-in carts (now (speeds .entry))) (paths-in carts steps (now (cells .entry)))))) ⌝ }
@@ -314,7 +312,6 @@ pub(crate) fn write_travel(
     requires { ⌜ (1 ≤ steps) × (steps ≤ 1024) × (carts * steps ≤ length (now cells)) ⌝ }
     requires { ⌜ 1 + carts + 3 * total moves (paths-in carts steps (now cells)) ≤ 4096 ⌝ }
     requires { ⌜ k + 3 * total moves (paths-in carts steps (now cells)) ≤ 8192 ⌝ }
-    requires { ⌜ (16_384 ≤ length (now ends)) × (16_384 ≤ length (now ranges)) ⌝ }
     ensures { λ r. ⌜ r ≡ k + 3 * total moves (paths-in carts steps (now (cells .entry))) ⌝ }
     ensures { λ _. ⌜ now (ends .exit) ≡ sets (now (ends .entry)) (2 * k)
         (flatMap bound-ends (travel-bounds (roads-in roads (now (edges .entry))) (routes 1 1 (carts-in carts (now (speeds .entry))) (paths-in carts steps (now (cells .entry)))))) ⌝ }

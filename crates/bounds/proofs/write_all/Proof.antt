@@ -30,70 +30,44 @@ ordered z = length (order-bounds (routes-of (of-paths (paths-in (z .args .carts)
 
 -- its sizes
 sized : (z : tie.Start)
-    → (z .args .carts ≤ 64) × (z .args .steps ≤ 1024) × (z .args .carts * z .args .steps ≤ length (z .args .cells .now))
-    × (1 + z .args .carts + 3 * moved z ≤ 4096) × (z .args .carts + 3 * moved z + ordered z + z .args .carts ≤ 8192)
-sized z = sizes (z .args .roads) (z .args .carts) (z .args .steps) (numbers z) (z .pre .1 .0 .1) (z .pre .1 .0 .0)
+    → ((z .args .carts ≤ 64) × (1 ≤ z .args .steps) × (z .args .steps ≤ 1024) × (z .args .carts * z .args .steps ≤ length (z .args .cells .now)))
+    × (2 + z .args .carts + 3 * moved z ≤ 4096) × (ordered z ≤ 90112)
+sized z = sizes (z .args .roads) (z .args .carts) (z .args .steps) (numbers z) (z .pre .1 .0)
 
 -- the first events are there
 there : (z : tie.Start) → z .args .carts < length (z .args .firsts .now)
-there z = firsts-there (z .args .roads) (z .args .carts) (z .args .steps) (numbers z) (z .args .firsts .now) (z .pre .1 .1 .0)
+there z = firsts-there (z .args .roads) (z .args .carts) (z .args .steps) (numbers z) (z .args .firsts .now) (z .pre .1 .1)
 
 write-starts-requires : tie.Need-write-starts-requires
 write-starts-requires c κs =
     let z = c .before .before .before .before .before .before .before .before in
     let s = sized z in
-    let e : 16_384 ≤ length (z .args .ends .now) = z .pre .1 .1 .1 .0 in
-    let r : 16_384 ≤ length (z .args .ranges .now) = z .pre .1 .1 .1 .1 in
-    ((s .0, omega arith, omega (arith, there z)), (omega (arith, s .0, e), omega (arith, s .0, r)))
+    (s .0 .0, omega arith, omega (arith, there z))
 
 write-travel-requires : tie.Need-write-travel-requires
 write-travel-requires c κs =
     let p = c .before .before .before .before .before .before in
     let z = p .before .before .before .before .before .before .before .before .before in
     let s = sized z in
-    let e : 16_384 ≤ length (z .args .ends .now) = z .pre .1 .1 .1 .0 in
-    let r : 16_384 ≤ length (z .args .ranges .now) = z .pre .1 .1 .1 .1 in (
-      (z .pre .0 .0, z .pre .0 .1, s .0, z .pre .0 .2),
-      ((z .pre .1 .0 .0, s .1, s .2), (s .3, (omega (arith, s .4), (omega (arith, e, p .write-starts .kept .1 .1 .1 .0), omega (arith, r, p .write-starts .kept .1 .1 .1 .1 .0))))),
-    )
+    ((z .pre .0 .0, z .pre .0 .1, s .0 .0, z .pre .0 .2), ((s .0 .1, s .0 .2, s .0 .3), (omega (arith, s .1), omega (arith, s .1))))
 
 write-orders-requires : tie.Need-write-orders-requires
 write-orders-requires c κs =
     let q = c .before .before .before .before .before .before in
-    let p = q .before .before .before .before .before .before .before in
-    let z = p .before .before .before .before .before .before .before .before .before in
-    let s = sized z in
-    let e : 16_384 ≤ length (z .args .ends .now) = z .pre .1 .1 .1 .0 in
-    let r : 16_384 ≤ length (z .args .ranges .now) = z .pre .1 .1 .1 .1 in
-    let k : q .write-travel .result ≡ z .args .carts + 3 * moved z = q .write-travel .ensures .0 in (
-      (z .pre .1 .0 .0, z .pre .1 .0 .1, omega (arith, k, s .4)),
-      (
-        omega (arith, k, e, s .4, p .write-starts .kept .1 .1 .1 .0, q .write-travel .kept .1 .1 .1 .1 .1 .1 .1 .0),
-        omega (arith, k, r, s .4, p .write-starts .kept .1 .1 .1 .1 .0, q .write-travel .kept .1 .1 .1 .1 .1 .1 .1 .1 .0),
-      ),
-    )
+    let z = q .before .before .before .before .before .before .before .before .before .before .before .before .before .before .before .before in
+    let k : q .write-travel .result ≡ z .args .carts + 3 * moved z = q .write-travel .ensures .0 in
+    (z .pre .1 .0, omega (arith, k, sized z .1))
 
 write-finishes-requires : tie.Need-write-finishes-requires
 write-finishes-requires c κs =
     let o = c .before .before .before .before .before .before in
     let q = o .before .before .before .before .before .before .before in
-    let p = q .before .before .before .before .before .before .before in
-    let z = p .before .before .before .before .before .before .before .before .before in
+    let z = q .before .before .before .before .before .before .before .before .before .before .before .before .before .before .before .before in
     let a = z .args in
     let s = sized z in
-    let e : 16_384 ≤ length (a .ends .now) = z .pre .1 .1 .1 .0 in
-    let r : 16_384 ≤ length (a .ranges .now) = z .pre .1 .1 .1 .1 in
     let k : q .write-travel .result ≡ a .carts + 3 * moved z = q .write-travel .ensures .0 in
-    let j : o .write-orders .result ≡ q .write-travel .result + ordered z = o .write-orders .ensures .0 in (
-      (s .0, omega (arith, k, j, s .4), there z),
-      (
-        firsts-positive (a .roads) (a .carts) (a .steps) (numbers z) (a .firsts .now) (z .pre .1 .1 .0),
-        (
-          omega (arith, k, j, e, s .4, p .write-starts .kept .1 .1 .1 .0, q .write-travel .kept .1 .1 .1 .1 .1 .1 .1 .0, o .write-orders .kept .1 .1 .1 .1 .0),
-          omega (arith, k, j, r, s .4, p .write-starts .kept .1 .1 .1 .1 .0, q .write-travel .kept .1 .1 .1 .1 .1 .1 .1 .1 .0, o .write-orders .kept .1 .1 .1 .1 .1 .0),
-        ),
-      ),
-    )
+    let j : o .write-orders .result ≡ q .write-travel .result + ordered z = o .write-orders .ensures .0 in
+    ((s .0 .0, omega (arith, k, j, s .1, s .2), there z), firsts-positive (a .roads) (a .carts) (a .steps) (numbers z) (a .firsts .now) (z .pre .1 .1))
 
 add-result : tie.Need-add-result
 add-result c =
@@ -103,7 +77,7 @@ add-result c =
     let s = sized z in
     let k : q .write-travel .result ≡ z .args .carts + 3 * moved z = q .write-travel .ensures .0 in
     let j : o .write-orders .result ≡ q .write-travel .result + ordered z = o .write-orders .ensures .0 in
-    omega (arith, k, j, s .4)
+    omega (arith, k, j, s .1, s .2)
 
 same-length : tie.Need-same-length
 same-length c = search needs
@@ -119,19 +93,16 @@ returns c =
     let p = q .before .before .before .before .before .before .before in
     let z = p .before .before .before .before .before .before .before .before .before in
     let a = z .args in
-    let s = sized z in
-    let e : 16_384 ≤ length (a .ends .now) = z .pre .1 .1 .1 .0 in
-    let r : 16_384 ≤ length (a .ranges .now) = z .pre .1 .1 .1 .1 in
     let k : q .write-travel .result ≡ a .carts + 3 * moved z = q .write-travel .ensures .0 in
     let j : o .write-orders .result ≡ q .write-travel .result + ordered z = o .write-orders .ensures .0 in (
       omega (arith, k, j, bounds-count (a .roads) (a .carts) (a .steps) (numbers z)),
       (
-        whole-written (a .roads) (a .carts) (a .steps) (numbers z) (a .firsts .now) (z .pre .1 .1 .0) bound-ends by-ends (a .ends .now)
+        whole-written (a .roads) (a .carts) (a .steps) (numbers z) (a .firsts .now) (z .pre .1 .1) bound-ends by-ends (a .ends .now)
             (p .write-starts .last .1 .1 .1 .0) (q .write-travel .last .1 .1 .1 .1 .1 .1 .1 .0) (o .write-orders .last .1 .1 .1 .1 .0) (f .write-finishes .last .1 .1 .1 .0) (q .write-travel .result) (o .write-orders .result)
-            (omega (arith, e, s .4)) k j (p .write-starts .ensures .0) (q .write-travel .ensures .1 .0) (o .write-orders .ensures .1 .0) (f .write-finishes .ensures .0),
-        whole-written (a .roads) (a .carts) (a .steps) (numbers z) (a .firsts .now) (z .pre .1 .1 .0) bound-range by-range (a .ranges .now)
+            k j (p .write-starts .ensures .0) (q .write-travel .ensures .1 .0) (o .write-orders .ensures .1 .0) (f .write-finishes .ensures .0),
+        whole-written (a .roads) (a .carts) (a .steps) (numbers z) (a .firsts .now) (z .pre .1 .1) bound-range by-range (a .ranges .now)
             (p .write-starts .last .1 .1 .1 .1 .0) (q .write-travel .last .1 .1 .1 .1 .1 .1 .1 .1 .0) (o .write-orders .last .1 .1 .1 .1 .1 .0) (f .write-finishes .last .1 .1 .1 .1 .0) (q .write-travel .result) (o .write-orders .result)
-            (omega (arith, r, s .4)) k j (p .write-starts .ensures .1) (q .write-travel .ensures .1 .1) (o .write-orders .ensures .1 .1) (f .write-finishes .ensures .1),
+            k j (p .write-starts .ensures .1) (q .write-travel .ensures .1 .1) (o .write-orders .ensures .1 .1) (f .write-finishes .ensures .1),
       ),
     )
 

@@ -57,7 +57,7 @@ sub-last : tie.Need-sub-last Inv-loop μ-loop
 sub-last c =
     let l = c .before .before in
     let z = l .before .before .before .before .before in
-    omega (arith, z .pre .1 .0 (l .loop .i) (c .before .loop-test .taken))
+    omega (arith, z .pre .1 (l .loop .i) (c .before .loop-test .taken))
 
 add-put-bound : tie.Need-add-put-bound Inv-loop μ-loop
 add-put-bound c = search needs

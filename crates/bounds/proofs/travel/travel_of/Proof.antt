@@ -74,8 +74,8 @@ room c =
     let z = l .before .before .before .before .before .before .before .before in
     let a = z .args in
     let h : a .at + a .steps ≤ length (a .cells .now) = omega arith in
-    let x : a .e + 3 * moves (take (a .steps) (drop (a .at) (a .cells .now))) ≤ 4096 = z .pre .1 .1 .0 .0 in
-    let y : a .k + 3 * moves (take (a .steps) (drop (a .at) (a .cells .now))) ≤ 8192 = z .pre .1 .1 .0 .1 in
+    let x : a .e + 3 * moves (take (a .steps) (drop (a .at) (a .cells .now))) ≤ 4096 = z .pre .1 .1 .0 in
+    let y : a .k + 3 * moves (take (a .steps) (drop (a .at) (a .cells .now))) ≤ 8192 = z .pre .1 .1 .1 in
     let u : l .loop .f + a .k ≡ a .e + l .loop .n = l .loop .inv .4 in
     let v : l .loop .n + 3 * moves-after (l .loop .c) (steps-from (a .cells .now) (a .at) (a .steps) (l .loop .s)) ≡ a .k + 3 * moves (take (a .steps) (drop (a .at) (a .cells .now))) = l .loop .inv .5 in
     let more : moves-after (l .loop .c) (steps-from (a .cells .now) (a .at) (a .steps) (l .loop .s))
@@ -88,7 +88,7 @@ put-move-requires c κs =
     let t = c .before .before in
     let z = t .before .before .before .before .before .before .before .before .before .before .before in
     let r = room t in
-    (search needs, (z .pre .1 .0, (r .0, omega (arith, r .1), omega (arith, r .1))))
+    (search needs, (z .pre .1 .0, (r .0, omega (arith, r .1))))
 
 add-f : tie.Need-add-f Inv-loop μ-loop
 add-f c = omega (arith, room (c .before .before .before .before .before .before .before) .0)

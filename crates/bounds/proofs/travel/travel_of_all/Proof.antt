@@ -83,7 +83,7 @@ room c =
     let left : ℕ = total moves (paths-in (a .carts - l .loop .i) (a .steps) (drop (l .loop .at) (a .cells .now))) in
     let cells : a .carts * a .steps ≤ length (a .cells .now) = z .pre .1 .1 .0 .2 in
     let events : 1 + a .carts + 3 * all ≤ 4096 = z .pre .1 .1 .1 .0 in
-    let bounds : a .k + 3 * all ≤ 8192 = z .pre .1 .1 .1 .1 .0 in
+    let bounds : a .k + 3 * all ≤ 8192 = z .pre .1 .1 .1 .1 in
     let x : l .loop .at + (a .carts - l .loop .i) * a .steps ≡ a .carts * a .steps = l .loop .inv .1 in
     let y : l .loop .e + (a .carts - l .loop .i) + 3 * left ≡ 1 + a .carts + 3 * all = l .loop .inv .4 in
     let u : l .loop .n + 3 * left ≡ a .k + 3 * all = l .loop .inv .5 in (
@@ -97,7 +97,7 @@ travel-of-requires c κs =
     let i = c .before .before .before .before in
     let r = room i in
     let z = i .before .before .before .before .before .before .before .before .before in
-    ((z .pre .0 .0, z .pre .0 .1, z .pre .1 .1 .0 .0, r .0), (z .pre .1 .0, ((omega (arith, r .1), r .2), (omega arith, omega arith))))
+    ((z .pre .0 .0, z .pre .0 .1, z .pre .1 .1 .0 .0, r .0), (z .pre .1 .0, (omega (arith, r .1), r .2)))
 
 sub-e : tie.Need-sub-e Inv-loop μ-loop
 sub-e c = search needs
