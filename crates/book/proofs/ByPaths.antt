@@ -22,7 +22,7 @@ use Rattle.tables.proofs.PathTurns.{even-held, even-cells}
 use Rattle.network.specs.Events.{Visit, visits-of, points, Route, routes, routes-of, route-points, route-events, event-count}
 use Rattle.network.specs.Bounds.{Bound, bounds}
 use Rattle.limits.specs.Limits.{of-paths, limits-kept}
-use Rattle.limits.specs.Orders.{events-fit}
+use Rattle.limits.specs.Orders.{events-kept}
 use Rattle.limits.proofs.Counts.{limits-by-paths}
 use Rattle.limits.proofs.RowBounds.{of-paths-carts}
 use Rattle.schedule.specs.Book.{Report, Book, first-book, is-there, points-of, passed-by, has-next, in-time, acceptable, pass-next, replay, route-passed, route-to-pass, by-cart}
@@ -122,11 +122,11 @@ some-step p h = by (p .paths) refl
         omega (arith, h .some-step q there, h .same-steps q there)
 
 -- its events are no more than may be
-pub events-fit-in : (ts : Tables) (p : Plan) → read-tables ts ≡ accepted p → limits-kept p ≡ true → (size : ℕ) → 8192 ≤ size
-    → (events-fit (length (p .carts)) (steps (p .paths)) (padded size (path-cells (p .paths))) 65 ≡ true)
+pub events-kept-in : (ts : Tables) (p : Plan) → read-tables ts ≡ accepted p → limits-kept p ≡ true → (size : ℕ) → 8192 ≤ size
+    → (events-kept (length (p .carts)) (steps (p .paths)) (padded size (path-cells (p .paths))) ≡ true)
     × (paths-in (length (p .carts)) (steps (p .paths)) (padded size (path-cells (p .paths))) ≡ p .paths)
-unfolding events-fit limits-kept
-events-fit-in ts p e kept size h =
+unfolding events-kept limits-kept
+events-kept-in ts p e kept size h =
     let sound : Sound p = accepted-sound ts p e in
     let even : Even (p .paths) = accepted-even ts p e in
     let n : ℕ = length (p .carts) in
@@ -140,12 +140,11 @@ events-fit-in ts p e kept size h =
     subst T (sym (sym (limits-by-paths p (sym count)) ∙ kept)) tt in
     let events : leb (event-count (of-paths (paths-in n w s))) 4096 ≡ true =
     ap (λ (x : List (List ℕ)). leb (event-count (of-paths x)) 4096) held ∙ passes _ (and-yes (leb (event-count (of-paths (p .paths))) 4096) _ within .0) in (
-      ap (λ (b : Bool). b && leb 1 w && leb w 1024 && leb (n * w) (length s) && leb (event-count (of-paths (paths-in n w s))) 4096 && leb (suc n) 65) (le-leb n 64 (sound .few-carts))
-          ∙ ap (λ (b : Bool). b && leb w 1024 && leb (n * w) (length s) && leb (event-count (of-paths (paths-in n w s))) 4096 && leb (suc n) 65) (le-leb 1 w (some-step p sound))
-          ∙ ap (λ (b : Bool). b && leb (n * w) (length s) && leb (event-count (of-paths (paths-in n w s))) 4096 && leb (suc n) 65) (le-leb w 1024 (even .few-steps))
-          ∙ ap (λ (b : Bool). b && leb (event-count (of-paths (paths-in n w s))) 4096 && leb (suc n) 65) (le-leb (n * w) (length s) (omega (arith, cells, long)))
-          ∙ ap (λ (b : Bool). b && leb (suc n) 65) events
-          ∙ le-leb (suc n) 65 (omega (arith, sound .few-carts)),
+      ap (λ (b : Bool). b && leb 1 w && leb w 1024 && leb (n * w) (length s) && leb (event-count (of-paths (paths-in n w s))) 4096) (le-leb n 64 (sound .few-carts))
+          ∙ ap (λ (b : Bool). b && leb w 1024 && leb (n * w) (length s) && leb (event-count (of-paths (paths-in n w s))) 4096) (le-leb 1 w (some-step p sound))
+          ∙ ap (λ (b : Bool). b && leb (n * w) (length s) && leb (event-count (of-paths (paths-in n w s))) 4096) (le-leb w 1024 (even .few-steps))
+          ∙ ap (λ (b : Bool). b && leb (event-count (of-paths (paths-in n w s))) 4096) (le-leb (n * w) (length s) (omega (arith, cells, long)))
+          ∙ events,
       held,
     )
 
@@ -154,7 +153,7 @@ pub log-book-is : (ts : Tables) (p : Plan) → read-tables ts ≡ accepted p →
     → log-book (length (p .carts)) (steps (p .paths)) (padded size (path-cells (p .paths))) cs times ≡ replay p (first-book p) (entries cs times)
 unfolding log-book
 log-book-is ts p e kept size h cs times =
-    let (fit, held) = events-fit-in ts p e kept size h in
+    let (fit, held) = events-kept-in ts p e kept size h in
     let same : length (p .carts) ≡ length (p .paths) = sym (accepted-sound ts p e .path-each) in
     ap₂ {C = Option Book} (λ (b : Bool) (ps : List (List ℕ)). cond b (replay (of-paths ps) (first-book (of-paths ps)) (entries cs times)) none) fit held
     ∙ ap (λ (b : Book). replay (of-paths (p .paths)) b (entries cs times)) (sym (first-by-paths p same))

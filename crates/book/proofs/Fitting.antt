@@ -19,7 +19,8 @@ use Rattle.network.specs.Events.{visits-of, points, Route, routes, routes-of, r
 use Rattle.network.specs.Bounds.{Bound}
 use Rattle.network.specs.BoundArrays.{bound-ends, bound-range}
 use Rattle.limits.specs.Limits.{of-paths}
-use Rattle.limits.specs.Orders.{first-events, events-fit, firsts-fitting}
+use Rattle.limits.specs.Orders.{first-events, events-kept, events-fit, firsts-fitting}
+use Rattle.limits.proofs.Firsts.{fit-there}
 use Rattle.limits.proofs.Counts.{point-count, route-count}
 use Rattle.limits.proofs.RowBounds.{of-paths-carts}
 use Rattle.schedule.specs.Book.{Report, _at_, Book, first-book, in-time, replay}
@@ -44,7 +45,7 @@ pub record Fit (n w : ℕ) (s : List ℕ) : Type 0 where
   pub events : event-count (of-paths (paths-in n w s)) ≤ 4096
 
 pub fit-says : (n w : ℕ) (s : List ℕ) (room : ℕ) → events-fit n w s room ≡ true → Fit n w s
-unfolding events-fit
+unfolding events-fit events-kept
 fit-says n w s room e =
     let few : Bool = leb (event-count (of-paths (paths-in n w s))) 4096 in
     let (a, g) = and-yes (leb n 64 && leb 1 w && leb w 1024 && leb (n * w) (length s) && few) (leb (suc n) room) (subst T (sym e) tt) in
@@ -115,12 +116,12 @@ module _ (n w : ℕ) (s : List ℕ) where
     -- none where the paths do not fit
     pub no-book : events-fit n w s 65 ≡ false → log-book n w s cs ts ≡ none
     unfolding log-book
-    no-book e = ap (λ (b : Bool). cond b (replay plan (first-book plan) (entries cs ts)) none) e
+    no-book e = ap (λ (b : Bool). cond b (replay plan (first-book plan) (entries cs ts)) none) (sym (fit-there n w s) ∙ e)
 
     -- else that of the replay
     pub the-book : events-fit n w s 65 ≡ true → log-book n w s cs ts ≡ replay plan (first-book plan) (entries cs ts)
     unfolding log-book
-    the-book e = ap (λ (b : Bool). cond b (replay plan (first-book plan) (entries cs ts)) none) e
+    the-book e = ap (λ (b : Bool). cond b (replay plan (first-book plan) (entries cs ts)) none) (sym (fit-there n w s) ∙ e)
 
 -- ---- whether there is a book
 

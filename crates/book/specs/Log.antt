@@ -10,7 +10,7 @@ use Rattle.floor.specs.Plan.{Plan}
 use Rattle.tables.specs.Arrays.{paths-in}
 use Rattle.network.specs.Bounds.{Bound}
 use Rattle.limits.specs.Limits.{of-paths}
-use Rattle.limits.specs.Orders.{events-fit}
+use Rattle.limits.specs.Orders.{events-kept}
 use Rattle.schedule.specs.Book.{Report, Book, first-book, has-next, in-time, replay}
 use Rattle.schedule.specs.Added.{added-bounds}
 use Rattle.book.specs.declared.Added.{Added}
@@ -25,7 +25,7 @@ entries (c ∷ cs) s = record { cart = c; time = little (take 8 s) } ∷ entries
 unfoldable pub log-book : ℕ → ℕ → List ℕ → List ℕ → List ℕ → Option Book
 log-book n w s carts times =
     let p : Plan = of-paths (paths-in n w s) in
-    cond (events-fit n w s 65) (replay p (first-book p) (entries carts times)) none
+    cond (events-kept n w s) (replay p (first-book p) (entries carts times)) none
 
 -- whether there is one
 unfoldable pub is-book : Option Book → Bool

@@ -4,13 +4,11 @@ use native.Mathlib.Nat.{min-le-right}
 use native.Mathlib.Numerals.{add-one}
 use native.Mathlib.Omega.{arith}
 use mathlib.Core.Path.{_≡_, refl, ap, ap₂, sym, _∙_, subst}
-use mathlib.Core.Bool.{Bool, true, false, _&&_, cond}
+use mathlib.Core.Bool.{Bool, true, cond}
 use mathlib.Core.List.{List, [], _∷_, _++_, map, flatMap}
 use mathlib.Core.Option.{some}
-use lib.Dec.{leb}
 use lib.ListN.{length, take, drop, getD, length-take}
 use lib.Seq.{sets, take-nil, take-take, getD-take}
-use borrow.Author.Tests.{le-leb}
 use Rattle.words.specs.Words.{written}
 use Rattle.words.proofs.Reading.{written-front}
 use Rattle.floor.specs.Plan.{Cart, Plan}
@@ -21,10 +19,10 @@ use Rattle.network.specs.Events.{route-points, routes, routes-of, event-count, 
 use Rattle.network.specs.Bounds.{Bound, start-bounds, travel-bounds, order-bounds, no-earlier, finish-bounds, bounds}
 use Rattle.limits.specs.Limits.{of-paths}
 use Rattle.limits.specs.Counts.{total, moves}
-use Rattle.limits.specs.Orders.{first-events, events-kept, events-fit, firsts-fitting, orders-fitting}
+use Rattle.limits.specs.Orders.{first-events, events-kept, firsts-fitting, orders-fitting}
 use Rattle.limits.proofs.Counts.{path-points, events-are, route-count, travels-count, start-count, bounds-are}
 use Rattle.limits.proofs.LimitSteps.{all-events}
-use Rattle.limits.proofs.Firsts.{firsts-from, first-events-are, firsts-count, kept-says}
+use Rattle.limits.proofs.Firsts.{firsts-from, first-events-are, firsts-count, kept-says, fit-there}
 use Rattle.limits.proofs.OrderSteps.{orders-numbered}
 use Rattle.limits.proofs.RowBounds.{of-paths-carts, orders-by-paths, order-count-is}
 use Rattle.bounds.specs.declared.Network.{Network}
@@ -207,16 +205,7 @@ module _ (roads carts w : ℕ) (a : Numbers) where
 
 -- ---- first events
 
--- 65 places are enough for them
-pub fit-there : (n w : ℕ) (s : List ℕ) → events-fit n w s 65 ≡ events-kept n w s
-unfolding events-fit
-fit-there n w s = by (events-kept n w s) refl
-  where
-    by : (b : Bool) → events-kept n w s ≡ b → (b && leb (suc n) 65) ≡ b
-    by false e = refl
-    by true e = le-leb (suc n) 65 (omega (arith, kept-says n w s true (sym e) refl .0 .0))
-
--- so they are written where the limit is kept
+-- they are written where the limit is kept
 pub firsts-held : (n w : ℕ) (s z fs : List ℕ) → events-kept n w s ≡ true → fs ≡ written (firsts-fitting n w s 65) z
     → take (n + 1) fs ≡ first-events (of-paths (paths-in n w s))
 unfolding firsts-fitting of-paths

@@ -147,6 +147,15 @@ module _ (n w : ℕ) (s : List ℕ) where
         omega (arith, leb→le (event-count (of-paths (paths-in n w s))) 4096 events, events-counted n w s o l),
       )
 
+-- 65 places are enough for them
+pub fit-there : (n w : ℕ) (s : List ℕ) → events-fit n w s 65 ≡ events-kept n w s
+unfolding events-fit
+fit-there n w s = by (events-kept n w s) refl
+  where
+    by : (b : Bool) → events-kept n w s ≡ b → (b && leb (suc n) 65) ≡ b
+    by false e = refl
+    by true e = le-leb (suc n) 65 (omega (arith, kept-says n w s true (sym e) refl .0 .0))
+
 module _ (n w : ℕ) (s fs : List ℕ) (kept : Bool) (q : kept ≡ events-kept n w s) where
   -- this is to be answered and left
   abbrev Left : Bool → List ℕ → Type 0

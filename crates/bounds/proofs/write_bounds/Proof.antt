@@ -9,8 +9,9 @@ use borrow.Author.Tests.{not-true, not-false}
 use Rattle.tables.specs.Arrays.{paths-in}
 use Rattle.limits.specs.Limits.{of-paths}
 use Rattle.limits.specs.Orders.{first-events, events-kept}
+use Rattle.limits.proofs.Firsts.{fit-there}
 use Rattle.bounds.specs.declared.Network.{Network}
-use Rattle.bounds.proofs.Whole.{sizes, finish-small, answered, fit-there, firsts-held}
+use Rattle.bounds.proofs.Whole.{sizes, finish-small, answered, firsts-held}
 use Rattle.bounds.proofs.Fits.{many-roads, few-edges, few-speeds, over-limits, all-fits}
 use Rattle.bounds.proofs.write_bounds.Statement.{statement}
 use Rattle.bounds.proofs.write_bounds.Tie as tie
