@@ -1,19 +1,16 @@
 -- The bounds of the plan that a slice holds, written to two arrays: its own, and behind them those that its log adds. Assumes nothing.
-use Prim.Native.Nat.{ℕ, _+_, _*_, _-_, _≤_, _<_}
+use Prim.Native.Nat.{ℕ, _+_, _*_, _-_, _≤_, _<_, min}
 use native.Mathlib.Omega.{arith}
 use mathlib.Core.Path.{_≡_, refl, ap, ap₂, sym, _∙_, subst}
-use mathlib.Core.Bool.{Bool, true, _&&_, cond}
+use mathlib.Core.Bool.{Bool, true, cond}
 use mathlib.Core.List.{List, _++_, flatMap, Memᴰ·append-right}
 use mathlib.Core.Option.{Option, none, some}
-use lib.Dec.{leb, lit≤}
-use lib.ListN.{length, take, drop, length-append, length-drop}
+use lib.Dec.{lit≤}
+use lib.ListN.{length, take, drop, length-append}
 use lib.Seq.{sets}
 use borrow.Author.Tests.{le-leb}
 use borrow.Rule.Slice.PartMut.{midOf, putMid}
-use Rattle.words.specs.Words.{written}
 use Rattle.words.proofs.Padding.{padded-length}
-use Rattle.words.proofs.Storing.{written-more}
-use Rattle.csv.proofs.Reading.{rest-is}
 use Rattle.floor.specs.Plan.{Road, Cart, Plan}
 use Rattle.floor.specs.Paths.{steps}
 use Rattle.floor.specs.Tables.{Tables}
@@ -27,14 +24,14 @@ use Rattle.network.specs.Bounds.{Bound, bounds}
 use Rattle.network.specs.BoundArrays.{bound-ends, bound-range}
 use Rattle.network.proofs.Judged.{judged}
 use Rattle.network.proofs.Routes.{event-count-is}
-use Rattle.network.proofs.BoundStores.{Pairs, by-ends, by-range, flat-append, pairs-length}
-use Rattle.limits.specs.Limits.{of-paths, paths-within}
-use Rattle.limits.proofs.Kept.{paths-within-is}
+use Rattle.network.proofs.BoundStores.{by-ends, by-range, more-stored, part-stored}
+use Rattle.limits.specs.Limits.{of-paths}
+use Rattle.limits.specs.Orders.{events-kept}
 use Rattle.bounds.specs.Network.{plan-in, network-fits, plan-fitting, network-answer, network-bounds}
-use Rattle.bounds.proofs.Stores.{part-stored}
 use Rattle.schedule.specs.Book.{Book}
 use Rattle.book.specs.declared.Added.{Added}
-use Rattle.book.specs.Log.{log-book, book-fitting, added-of, added-answer}
+use Rattle.book.specs.Log.{log-book, added-of, added-answer}
+use Rattle.book.proofs.ByPaths.{events-kept-in}
 use Rattle.schedule.specs.Added.{added-bounds, all-bounds}
 use Rattle.schedule.proofs.Logged.{Logged, logged-kept, bound-ends as ends-below}
 use Rattle.schedule.proofs.Numbers.{added-few}
@@ -42,7 +39,7 @@ use Rattle.slice.specs.PlanSlice.{Held, held}
 use Rattle.slice.specs.HeldPlan.{log-of, Holds}
 use Rattle.slice.proofs.Slice.{held-says}
 use Rattle.slice.proofs.Laid.{rest-of}
-use Rattle.slice.proofs.HeldPlan.{p, b, ts, accepted-there, read-there, sound, paths-there, some-steps, limits-there, book-there, added-there}
+use Rattle.slice.proofs.HeldPlan.{p, b, ts, accepted-there, read-there, sound, paths-there, limits-there, book-there, added-there}
 use Rattle.bounds.specs.declared.Network.{Network}
 use Rattle.timing.specs.declared.Bounding.{Bounding}
 use Rattle.timing.specs.Bounding.{bounding, held-bounds}
@@ -67,14 +64,13 @@ module _ (s edges speeds cells : List ℕ) (roads carts w reports : ℕ) (h : Ho
       ap (λ (x : List Road). record { roads = x; carts = carts-in carts speeds; paths = paths-in carts w cells }) r
       ∙ ap₂ (λ (x : List Cart) (y : List (List ℕ)). record { roads = its .roads; carts = x; paths = y }) c (paths-there s edges speeds cells roads carts w reports h)
 
-  -- so its paths in the array do
-  within-there : paths-within carts w cells ≡ true
-  within-there =
-      ap (λ (n : ℕ). paths-within n w cells) (h .carts-are)
-      ∙ ap (λ (n : ℕ). paths-within (length (its .carts)) n cells) (h .steps-are)
-      ∙ ap (paths-within (length (its .carts)) (steps (its .paths))) (h .cells-are)
-      ∙ paths-within-is its-tables its (read-there s edges speeds cells roads carts w reports h) 8192 (lit≤ tt)
-      ∙ limits-there s edges speeds cells roads carts w reports h
+  -- so its paths in the array keep the limit of events
+  kept-there : events-kept carts w cells ≡ true
+  kept-there =
+      ap (λ (n : ℕ). events-kept n w cells) (h .carts-are)
+      ∙ ap (λ (n : ℕ). events-kept (length (its .carts)) n cells) (h .steps-are)
+      ∙ ap (events-kept (length (its .carts)) (steps (its .paths))) (h .cells-are)
+      ∙ events-kept-in its-tables its (read-there s edges speeds cells roads carts w reports h) (limits-there s edges speeds cells roads carts w reports h) 8192 (lit≤ tt) .0
 
   -- the arrays of roads and carts are long enough
   edges-long : 4 * roads ≤ length edges
@@ -92,81 +88,45 @@ module _ (s edges speeds cells : List ℕ) (roads carts w reports : ℕ) (h : Ho
       omega (arith, h .carts-are)
 
   -- and fits
-  pub plan-fits : (e r : ℕ) → 24_576 ≤ e → 24_576 ≤ r → plan-fitting roads carts w (record { edges = edges; speeds = speeds; cells = cells }) e r ≡ some its
+  pub plan-fits : plan-fitting roads carts w (record { edges = edges; speeds = speeds; cells = cells }) ≡ some its
   unfolding plan-fitting network-fits
-  plan-fits e r he hr =
+  plan-fits =
       let few : roads ≤ 1024 = omega (arith, h .roads-are, plan-roads its-tables its (read-there s edges speeds cells roads carts w reports h)) in
-      let fit : network-fits roads carts w (record { edges = edges; speeds = speeds; cells = cells }) e r ≡ true =
-      simp (le-leb roads 1024 few, le-leb (4 * roads) (length edges) edges-long, le-leb (2 * carts) (length speeds) speeds-long, le-leb 1 w (some-steps s edges speeds cells roads carts w reports h), within-there, le-leb 16_384 e (omega arith), le-leb 16_384 r (omega arith)) in
+      let fit : network-fits roads carts w (record { edges = edges; speeds = speeds; cells = cells }) ≡ true =
+      simp (le-leb roads 1024 few, le-leb (4 * roads) (length edges) edges-long, le-leb (2 * carts) (length speeds) speeds-long, kept-there) in
       ap (λ (x : Bool). cond x (some (plan-in roads carts w (record { edges = edges; speeds = speeds; cells = cells }))) none) fit ∙ ap some plan-there
 
 -- ---- one behind the other
 
--- what is written over a front leaves a slice as long as it was
-written-length : (g : Bound → List ℕ) → Pairs g → (xs : List Bound) (s : List ℕ) → 2 * length xs ≤ length s → length (written (flatMap g xs) s) ≡ length s
-unfolding written
-written-length g two xs s h =
-    omega (arith, length-append (flatMap g xs) (drop (length (flatMap g xs)) s), length-drop (length (flatMap g xs)) s, pairs-length g two xs)
-
--- behind 8,192 bounds there is room for 4,096
-part-room : (t : List ℕ) (k n : ℕ) → length t ≡ n → 24_576 ≤ n → k ≤ 8192 → 8192 ≤ length (midOf (2 * k) (length t - 2 * k) t)
-part-room t k n e h l = omega (arith, ap (λ (x : List ℕ). length x) (rest-is t (2 * k)), length-drop (2 * k) t)
-
--- bounds stored behind those that are written
-pub behind : (g : Bound → List ℕ) → Pairs g → (xs ys : List Bound) (s t u : List ℕ) (k : ℕ) → k ≡ length xs → 2 * (length xs + length ys) ≤ length s
-    → t ≡ written (flatMap g xs) s → u ≡ sets t (2 * k) (flatMap g ys) → u ≡ written (flatMap g (xs ++ ys)) s
-behind g two xs ys s t u k e room q r =
-    let many : length (flatMap g xs) ≡ 2 * length xs = pairs-length g two xs in
-    let more : length (flatMap g ys) ≡ 2 * length ys = pairs-length g two ys in
-    let place : 2 * k ≡ length (flatMap g xs) = omega arith in
-    r ∙ ap (λ (x : List ℕ). sets x (2 * k) (flatMap g ys)) q
-    ∙ ap (λ (n : ℕ). sets (written (flatMap g xs) s) n (flatMap g ys)) place
-    ∙ written-more (flatMap g xs) (flatMap g ys) s (omega arith)
-    ∙ ap (λ (l : List ℕ). written l s) (sym (flat-append g xs ys))
-
--- bounds written to the front of the part behind k bounds are stored there: the part keeps its length
-pub part-written : (g : Bound → List ℕ) (ys : List Bound) (t u : List ℕ) (k : ℕ) → 2 * k ≤ length t
-    → u ≡ written (flatMap g ys) (midOf (2 * k) (length t - 2 * k) t) → length u ≡ length (midOf (2 * k) (length t - 2 * k) t)
-    → putMid (2 * k) (length t - 2 * k) t u ≡ sets t (2 * k) (flatMap g ys)
-unfolding written
-part-written g ys t u k h q long =
-    let part : List ℕ = midOf (2 * k) (length t - 2 * k) t in
-    let rest : length part ≡ length t - 2 * k = ap (λ (x : List ℕ). length x) (rest-is t (2 * k)) ∙ length-drop (2 * k) t in
-    let all : length u ≡ length (flatMap g ys) + length (drop (length (flatMap g ys)) part) = ap length q ∙ length-append (flatMap g ys) (drop (length (flatMap g ys)) part) in
-    part-stored (flatMap g ys) t u (2 * k) (omega (arith, rest, all, long, length-drop (length (flatMap g ys)) part)) q
-
--- where two arrays have room for what a log adds behind k bounds, it is stored there
-module _ (s cells : List ℕ) (n carts w k : ℕ) (e r : List ℕ) (few : k ≤ 8192) (he : 24_576 ≤ length e) (hr : 24_576 ≤ length r)
-    (log times : List ℕ) (is-log : log ≡ take n (drop 196_608 s)) (is-times : times ≡ take (length s) (drop 200_704 s)) where
+-- what a log adds behind k bounds is stored there, as far as two arrays go
+module _ (s cells : List ℕ) (n carts w k : ℕ) (e r : List ℕ)
+    (log times : List ℕ) (is-log : log ≡ take n (drop 196_608 s)) (is-times : times ≡ take (length s) (drop 200_704 s)) (i j : ℕ) (i-is : i ≡ min (2 * k) (length e)) (j-is : j ≡ min (2 * k) (length r)) where
   abbrev part-e : List ℕ
-  part-e = midOf (2 * k) (length e - 2 * k) e
+  part-e = midOf i (length e - i) e
 
   abbrev part-r : List ℕ
-  part-r = midOf (2 * k) (length r - 2 * k) r
+  part-r = midOf j (length r - j) r
 
   abbrev of-log : Option Book
-  of-log = book-fitting (length part-e) (length part-r) (log-book carts w cells log times)
+  of-log = log-book carts w cells log times
 
   log-is : of-log ≡ log-of s n cells carts w
-  unfolding book-fitting log-of
-  log-is =
-      let room : (leb 8192 (length part-e) && leb 8192 (length part-r)) ≡ true =
-      ap (λ (b : Bool). b && leb 8192 (length part-r)) (le-leb 8192 (length part-e) (part-room e k (length e) refl he few)) ∙ le-leb 8192 (length part-r) (part-room r k (length r) refl hr few) in
-      ap (λ (b : Bool). cond b (log-book carts w cells log times) none) room ∙ ap₂ (log-book carts w cells) is-log (is-times ∙ rest-of s 200_704)
+  unfolding log-of
+  log-is = ap₂ (log-book carts w cells) is-log (is-times ∙ rest-of s 200_704)
 
-  pub log-left : (y : Added) (u v : List ℕ) → length u ≡ length part-e → length v ≡ length part-r
+  pub log-left : (y : Added) (u v : List ℕ)
       → (y ≡ added-answer (of-paths (paths-in carts w cells)) of-log)
-      × ((u ≡ written (flatMap bound-ends (added-of (of-paths (paths-in carts w cells)) of-log)) part-e)
-      × (v ≡ written (flatMap bound-range (added-of (of-paths (paths-in carts w cells)) of-log)) part-r))
+      × ((u ≡ sets part-e 0 (flatMap bound-ends (added-of (of-paths (paths-in carts w cells)) of-log)))
+      × (v ≡ sets part-r 0 (flatMap bound-range (added-of (of-paths (paths-in carts w cells)) of-log))))
       → (y ≡ added-answer (of-paths (paths-in carts w cells)) (log-of s n cells carts w))
-      × ((putMid (2 * k) (length e - 2 * k) e u ≡ sets e (2 * k) (flatMap bound-ends (added-of (of-paths (paths-in carts w cells)) (log-of s n cells carts w))))
-      × (putMid (2 * k) (length r - 2 * k) r v ≡ sets r (2 * k) (flatMap bound-range (added-of (of-paths (paths-in carts w cells)) (log-of s n cells carts w)))))
-  log-left y u v lu lv z =
+      × ((putMid i (length e - i) e u ≡ sets e (2 * k) (flatMap bound-ends (added-of (of-paths (paths-in carts w cells)) (log-of s n cells carts w))))
+      × (putMid j (length r - j) r v ≡ sets r (2 * k) (flatMap bound-range (added-of (of-paths (paths-in carts w cells)) (log-of s n cells carts w)))))
+  log-left y u v z =
       let p : Plan = of-paths (paths-in carts w cells) in (
         z .0 ∙ ap (added-answer p) log-is,
         (
-          part-written bound-ends (added-of p (log-of s n cells carts w)) e u k (omega arith) (z .1 .0 ∙ ap (λ (o : Option Book). written (flatMap bound-ends (added-of p o)) part-e) log-is) lu,
-          part-written bound-range (added-of p (log-of s n cells carts w)) r v k (omega arith) (z .1 .1 ∙ ap (λ (o : Option Book). written (flatMap bound-range (added-of p o)) part-r) log-is) lv,
+          part-stored (flatMap bound-ends (added-of p (log-of s n cells carts w))) e u (2 * k) i i-is (z .1 .0 ∙ ap (λ (o : Option Book). sets part-e 0 (flatMap bound-ends (added-of p o))) log-is),
+          part-stored (flatMap bound-range (added-of p (log-of s n cells carts w))) r v (2 * k) j j-is (z .1 .1 ∙ ap (λ (o : Option Book). sets part-r 0 (flatMap bound-range (added-of p o))) log-is),
         ),
       )
 
@@ -174,9 +134,9 @@ module _ (s cells : List ℕ) (n carts w k : ℕ) (e r : List ℕ) (few : k ≤ 
 
 -- two arrays that were e and r and are t and u: of the plan that a slice holds
 abbrev pub Wrote : Option Held → Bounding → List ℕ → List ℕ → List ℕ → List ℕ → Type 0
-Wrote o x e r t u = (x ≡ bounding o) × ((t ≡ written (flatMap bound-ends (held-bounds o)) e) × (u ≡ written (flatMap bound-range (held-bounds o)) r))
+Wrote o x e r t u = (x ≡ bounding o) × ((t ≡ sets e 0 (flatMap bound-ends (held-bounds o))) × (u ≡ sets r 0 (flatMap bound-range (held-bounds o))))
 
-module _ (s edges speeds cells : List ℕ) (roads carts w reports : ℕ) (h : Holds s edges speeds cells roads carts w reports) (e r : List ℕ) (he : 24_576 ≤ length e) (hr : 24_576 ≤ length r) where
+module _ (s edges speeds cells : List ℕ) (roads carts w reports : ℕ) (h : Holds s edges speeds cells roads carts w reports) (e r : List ℕ) where
   abbrev pl : Plan
   pl = p s edges speeds cells roads carts w reports h
 
@@ -185,11 +145,11 @@ module _ (s edges speeds cells : List ℕ) (roads carts w reports : ℕ) (h : Ho
 
   -- its own bounds are written first
   module _ (x : Network) (e1 r1 : List ℕ)
-      (x-is : x ≡ network-answer (plan-fitting roads carts w (record { edges = edges; speeds = speeds; cells = cells }) (length e) (length r)))
-      (e1-is : e1 ≡ written (flatMap bound-ends (network-bounds (plan-fitting roads carts w (record { edges = edges; speeds = speeds; cells = cells }) (length e) (length r)))) e)
-      (r1-is : r1 ≡ written (flatMap bound-range (network-bounds (plan-fitting roads carts w (record { edges = edges; speeds = speeds; cells = cells }) (length e) (length r)))) r) where
-    fits : plan-fitting roads carts w (record { edges = edges; speeds = speeds; cells = cells }) (length e) (length r) ≡ some pl
-    fits = plan-fits s edges speeds cells roads carts w reports h (length e) (length r) he hr
+      (x-is : x ≡ network-answer (plan-fitting roads carts w (record { edges = edges; speeds = speeds; cells = cells })))
+      (e1-is : e1 ≡ sets e 0 (flatMap bound-ends (network-bounds (plan-fitting roads carts w (record { edges = edges; speeds = speeds; cells = cells })))))
+      (r1-is : r1 ≡ sets r 0 (flatMap bound-range (network-bounds (plan-fitting roads carts w (record { edges = edges; speeds = speeds; cells = cells }))))) where
+    fits : plan-fitting roads carts w (record { edges = edges; speeds = speeds; cells = cells }) ≡ some pl
+    fits = plan-fits s edges speeds cells roads carts w reports h
 
     -- they fit
     pub own-fit : ¬ (x ≡ Network.Unfit)
@@ -212,20 +172,14 @@ module _ (s edges speeds cells : List ℕ) (roads carts w reports : ℕ) (h : Ho
       pub own-few : own ≤ 8192
       own-few = omega (arith, own-are, judged (ts s edges speeds cells roads carts w reports h) pl (accepted-there s edges speeds cells roads carts w reports h) .2)
 
-      -- the arrays are as long as they were, and behind its own bounds there is room
-      own-written : e1 ≡ written (flatMap bound-ends (bounds pl)) e
+      -- what is then in the arrays
+      own-written : e1 ≡ sets e 0 (flatMap bound-ends (bounds pl))
       unfolding network-bounds
-      own-written = e1-is ∙ ap (λ (o : Option Plan). written (flatMap bound-ends (network-bounds o)) e) fits
+      own-written = e1-is ∙ ap (λ (o : Option Plan). sets e 0 (flatMap bound-ends (network-bounds o))) fits
 
-      own-ranges : r1 ≡ written (flatMap bound-range (bounds pl)) r
+      own-ranges : r1 ≡ sets r 0 (flatMap bound-range (bounds pl))
       unfolding network-bounds
-      own-ranges = r1-is ∙ ap (λ (o : Option Plan). written (flatMap bound-range (network-bounds o)) r) fits
-
-      pub ends-long : length e1 ≡ length e
-      ends-long = ap length own-written ∙ written-length bound-ends by-ends (bounds pl) e (omega (arith, own-few, own-are))
-
-      pub ranges-long : length r1 ≡ length r
-      ranges-long = ap length own-ranges ∙ written-length bound-range by-range (bounds pl) r (omega (arith, own-few, own-are))
+      own-ranges = r1-is ∙ ap (λ (o : Option Plan). sets r 0 (flatMap bound-range (network-bounds o))) fits
 
       -- how many the log adds
       logged : Logged pl bk
@@ -273,9 +227,7 @@ module _ (s edges speeds cells : List ℕ) (roads carts w reports : ℕ) (h : Ho
             subst (λ (o : Option Held). Wrote o (Bounding.Bounds n own (own + more)) e r e2 r2) (sym (h .of-slice)) (
               ap (λ (k : ℕ). Bounding.Bounds k own (own + more)) events-are ∙ ap₂ (Bounding.Bounds (event-count pl)) own-are all,
               (
-                behind bound-ends by-ends (bounds pl) (added-bounds pl bk) e e1 e2 own own-are (omega (arith, room, he)) own-written
-                    (e2-is ∙ ap (λ (l : List Bound). sets e1 (2 * own) (flatMap bound-ends l)) adds),
-                behind bound-range by-range (bounds pl) (added-bounds pl bk) r r1 r2 own own-are (omega (arith, room, hr)) own-ranges
-                    (r2-is ∙ ap (λ (l : List Bound). sets r1 (2 * own) (flatMap bound-range l)) adds),
+                e2-is ∙ ap (λ (l : List Bound). sets e1 (2 * own) (flatMap bound-ends l)) adds ∙ more-stored bound-ends by-ends e e1 0 own (bounds pl) (added-bounds pl bk) (omega (arith, own-are)) own-written,
+                r2-is ∙ ap (λ (l : List Bound). sets r1 (2 * own) (flatMap bound-range l)) adds ∙ more-stored bound-range by-range r r1 0 own (bounds pl) (added-bounds pl bk) (omega (arith, own-are)) own-ranges,
               ),
             )

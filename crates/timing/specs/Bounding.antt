@@ -1,7 +1,7 @@
 -- The bounds of the plan that a slice holds, in arrays: what the code that writes them answers and leaves, on all input.
 -- Assumes nothing.
 use Prim.Native.Nat.{ℕ}
-use mathlib.Core.Bool.{Bool, true, false, _&&_}
+use mathlib.Core.Bool.{Bool, true, false}
 use mathlib.Core.List.{List, []}
 use mathlib.Core.Option.{Option, none, some}
 use lib.Dec.{leb}
@@ -12,9 +12,9 @@ use Rattle.schedule.specs.Added.{all-bounds}
 use Rattle.slice.specs.PlanSlice.{plan-need, Held}
 use Rattle.timing.specs.declared.Bounding.{Bounding}
 
--- a slice is long enough, and two arrays have room for 8,192 bounds of its plan and one for each of 4,096 events
-unfoldable pub bounding-fits : List ℕ → ℕ → ℕ → Bool
-bounding-fits s ends ranges = leb plan-need (length s) && leb 24_576 ends && leb 24_576 ranges
+-- a slice is long enough
+unfoldable pub bounding-fits : List ℕ → Bool
+bounding-fits s = leb plan-need (length s)
 
 -- how many events, own bounds and bounds in all there are
 unfoldable pub bounding : Option Held → Bounding

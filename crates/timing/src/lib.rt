@@ -4,10 +4,8 @@ use bounds::Network;
 use slice::Holding;
 ghost use mathlib.Core.Path.{_≡_};
 ghost use mathlib.Core.List.{flatMap};
-ghost use Prim.Native.Nat.{_*_, _≤_};
-ghost use lib.ListN.{length};
+ghost use Prim.Native.Nat.{_*_};
 ghost use lib.Seq.{sets};
-ghost use Rattle.words.specs.Words.{written};
 ghost use Rattle.network.specs.BoundArrays.{bound-ends, bound-range};
 ghost use Rattle.tables.specs.Arrays.{paths-in};
 ghost use Rattle.limits.specs.Limits.{of-paths};
@@ -27,7 +25,7 @@ pub enum Bounding {
     },
 }
 
-// Writes the bounds that the n reports of a slice's log add to paths in an array, behind `own` bounds.
+// Writes the bounds that the n reports of a slice's log add to paths in an array, behind `own` bounds, as many as there is room for.
 fn write_log(
     plan: &[u8],
     n: usize,
@@ -38,21 +36,22 @@ fn write_log(
     ends: &mut [u16],
     ranges: &mut [u64],
 ) -> Added
-    requires { ⌜ (233472 ≤ length (now plan)) × (n ≤ 4096) × (own ≤ 8192) × (24576 ≤ length (now ends)) × (24576 ≤ length (now ranges)) ⌝ }
     ensures answer { λ r. ⌜ r ≡ added-answer (of-paths (paths-in carts steps (now (cells .entry)))) (log-of (now (plan .entry)) n (now (cells .entry)) carts steps) ⌝ }
     ensures left { λ _. ⌜ now (ends .exit) ≡ sets (now (ends .entry)) (2 * own) (flatMap bound-ends (added-of (of-paths (paths-in carts steps (now (cells .entry)))) (log-of (now (plan .entry)) n (now (cells .entry)) carts steps))) ⌝ }
     ensures left_ranges { λ _. ⌜ now (ranges .exit) ≡ sets (now (ranges .entry)) (2 * own) (flatMap bound-range (added-of (of-paths (paths-in carts steps (now (cells .entry)))) (log-of (now (plan .entry)) n (now (cells .entry)) carts steps))) ⌝ }
 {
     let log = slice::part(plan, 196_608, n);
     let times = slice::part(plan, 200_704, plan.len());
+    let e = network::behind(own, ends.len());
+    let r = network::behind(own, ranges.len());
     book::write_added(
         cells,
         carts,
         steps,
         log,
         times,
-        &mut ends[2 * own..],
-        &mut ranges[2 * own..],
+        &mut ends[e..],
+        &mut ranges[r..],
     )
 }
 
@@ -70,10 +69,9 @@ fn write_both(
     ranges: &mut [u64],
 ) -> Bounding
     requires { ⌜ Holds (now plan) (now edges) (now speeds) (now cells) roads carts steps reports ⌝ }
-    requires { ⌜ (24576 ≤ length (now ends)) × (24576 ≤ length (now ranges)) ⌝ }
     ensures answer { λ r. ⌜ r ≡ bounding (held (now (plan .entry))) ⌝ }
-    ensures left { λ _. ⌜ now (ends .exit) ≡ written (flatMap bound-ends (held-bounds (held (now (plan .entry))))) (now (ends .entry)) ⌝ }
-    ensures left_ranges { λ _. ⌜ now (ranges .exit) ≡ written (flatMap bound-range (held-bounds (held (now (plan .entry))))) (now (ranges .entry)) ⌝ }
+    ensures left { λ _. ⌜ now (ends .exit) ≡ sets (now (ends .entry)) 0 (flatMap bound-ends (held-bounds (held (now (plan .entry))))) ⌝ }
+    ensures left_ranges { λ _. ⌜ now (ranges .exit) ≡ sets (now (ranges .entry)) 0 (flatMap bound-range (held-bounds (held (now (plan .entry))))) ⌝ }
 {
     let x = bounds::write_bounds(edges, speeds, cells, roads, carts, steps, ends, ranges);
     match x {
@@ -95,19 +93,13 @@ fn write_both(
     }
 }
 
-// Writes the bounds of the plan that a slice holds, and those that its log adds, to the front of two arrays.
+// Writes the bounds of the plan that a slice holds, and those that its log adds, to the front of two arrays, as many as there is room for.
 pub fn write_held(plan: &[u8], ends: &mut [u16], ranges: &mut [u64]) -> Bounding
-    ensures answer { λ r. ⌜ r ≡ bounding-answer (bounding-fits (now (plan .entry)) (length (now (ends .entry))) (length (now (ranges .entry)))) (held (now (plan .entry))) ⌝ }
-    ensures left { λ _. ⌜ now (ends .exit) ≡ written (flatMap bound-ends (bounding-written (bounding-fits (now (plan .entry)) (length (now (ends .entry))) (length (now (ranges .entry)))) (held (now (plan .entry))))) (now (ends .entry)) ⌝ }
-    ensures left_ranges { λ _. ⌜ now (ranges .exit) ≡ written (flatMap bound-range (bounding-written (bounding-fits (now (plan .entry)) (length (now (ends .entry))) (length (now (ranges .entry)))) (held (now (plan .entry))))) (now (ranges .entry)) ⌝ }
+    ensures answer { λ r. ⌜ r ≡ bounding-answer (bounding-fits (now (plan .entry))) (held (now (plan .entry))) ⌝ }
+    ensures left { λ _. ⌜ now (ends .exit) ≡ sets (now (ends .entry)) 0 (flatMap bound-ends (bounding-written (bounding-fits (now (plan .entry))) (held (now (plan .entry))))) ⌝ }
+    ensures left_ranges { λ _. ⌜ now (ranges .exit) ≡ sets (now (ranges .entry)) 0 (flatMap bound-range (bounding-written (bounding-fits (now (plan .entry))) (held (now (plan .entry))))) ⌝ }
 {
     if plan.len() < 233_472 {
-        return Bounding::TooShort;
-    }
-    if ends.len() < 24_576 {
-        return Bounding::TooShort;
-    }
-    if ranges.len() < 24_576 {
         return Bounding::TooShort;
     }
     let mut edges = [0u32; 4096];

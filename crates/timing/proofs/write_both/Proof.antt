@@ -1,32 +1,9 @@
 -- `timing::write_both` meets its contract: the plan's own bounds are written, and behind them those that its log adds. Assumes nothing.
-use Prim.Native.Nat.{_≤_}
 use native.Mathlib.Omega.{arith}
-use mathlib.Core.Path.{_≡_}
-use lib.ListN.{length}
 use borrow.Author.Needs.{needs}
-use Rattle.slice.proofs.HeldPlan.{reports-few}
-use Rattle.timing.proofs.Written.{own-fit, own-few, ends-long, ranges-long, some-book, more-few, both-written}
+use Rattle.timing.proofs.Written.{own-fit, some-book, more-few, both-written}
 use Rattle.timing.proofs.write_both.Statement.{statement}
 use Rattle.timing.proofs.write_both.Tie as tie
-
--- what is known once the plan's own bounds are written
-known : (k : tie.After-known-told)
-    → (let w = k .before .before .before .before .before .before .before in
-    let a = w .before .before .before .before .before .before .before .before .before .args in
-    (a .reports ≤ 4096) × (k .before .x .given .0 .1 .0 ≤ 8192)
-    × (length (w .write-bounds .last .1 .1 .1 .1 .1 .1 .0) ≡ length (a .ends .now)) × (length (w .write-bounds .last .1 .1 .1 .1 .1 .1 .1 .0) ≡ length (a .ranges .now)))
-known k =
-    let w = k .before .before .before .before .before .before .before in
-    let s = w .before .before .before .before .before .before .before .before .before in
-    let a = s .args in (
-      reports-few (a .plan .now) (a .edges .now) (a .speeds .now) (a .cells .now) (a .roads) (a .carts) (a .steps) (a .reports) (s .pre .0),
-      own-few (a .plan .now) (a .edges .now) (a .speeds .now) (a .cells .now) (a .roads) (a .carts) (a .steps) (a .reports) (s .pre .0) (a .ends .now) (a .ranges .now) (s .pre .1 .0) (s .pre .1 .1)
-          (w .write-bounds .result) _ _ (w .write-bounds .ensures .0) (w .write-bounds .ensures .1 .0) (w .write-bounds .ensures .1 .1) _ _ (k .before .x .given .1),
-      ends-long (a .plan .now) (a .edges .now) (a .speeds .now) (a .cells .now) (a .roads) (a .carts) (a .steps) (a .reports) (s .pre .0) (a .ends .now) (a .ranges .now) (s .pre .1 .0) (s .pre .1 .1)
-          (w .write-bounds .result) _ _ (w .write-bounds .ensures .0) (w .write-bounds .ensures .1 .0) (w .write-bounds .ensures .1 .1) _ _ (k .before .x .given .1),
-      ranges-long (a .plan .now) (a .edges .now) (a .speeds .now) (a .cells .now) (a .roads) (a .carts) (a .steps) (a .reports) (s .pre .0) (a .ends .now) (a .ranges .now) (s .pre .1 .0) (s .pre .1 .1)
-          (w .write-bounds .result) _ _ (w .write-bounds .ensures .0) (w .write-bounds .ensures .1 .0) (w .write-bounds .ensures .1 .1) _ _ (k .before .x .given .1),
-    )
 
 write-bounds-requires : tie.Need-write-bounds-requires
 write-bounds-requires c κs = search needs
@@ -38,11 +15,7 @@ enum-known-x : tie.Need-enum-known-x
 enum-known-x c = search needs
 
 write-log-requires : tie.Need-write-log-requires
-write-log-requires c κs =
-    let k = c .before .before in
-    let s = k .before .before .before .before .before .before .before .before .before .before .before .before .before .before .before .before in
-    let (reports, few, ends, ranges) = known k in
-    (s .pre .0 .long, reports, few, omega (arith, ends, s .pre .1 .0), omega (arith, ranges, s .pre .1 .1))
+write-log-requires c κs = search needs
 
 enum-told-2 : tie.Need-enum-told-2
 enum-told-2 c = search needs
@@ -59,7 +32,7 @@ add-t26 c =
     let a = s .args in
     omega (
       arith,
-      more-few (a .plan .now) (a .edges .now) (a .speeds .now) (a .cells .now) (a .roads) (a .carts) (a .steps) (a .reports) (s .pre .0) (a .ends .now) (a .ranges .now) (s .pre .1 .0) (s .pre .1 .1)
+      more-few (a .plan .now) (a .edges .now) (a .speeds .now) (a .cells .now) (a .roads) (a .carts) (a .steps) (a .reports) (s .pre) (a .ends .now) (a .ranges .now)
           (w .write-bounds .result) _ _ (w .write-bounds .ensures .0) (w .write-bounds .ensures .1 .0) (w .write-bounds .ensures .1 .1) _ _ (k .before .x .given .1) (g .write-log .result) _ _ (g .write-log .ensures .0) (g .write-log .ensures .1 .0) (g .write-log .ensures .1 .1) _ (c .before .y .given .1),
     )
 
@@ -74,7 +47,7 @@ returns c =
     let w = c .before .before .before .before .before .before in
     let s = w .before .before .before .before .before .before .before .before .before in
     let a = s .args in
-    absurd (own-fit (a .plan .now) (a .edges .now) (a .speeds .now) (a .cells .now) (a .roads) (a .carts) (a .steps) (a .reports) (s .pre .0) (a .ends .now) (a .ranges .now) (s .pre .1 .0) (s .pre .1 .1)
+    absurd (own-fit (a .plan .now) (a .edges .now) (a .speeds .now) (a .cells .now) (a .roads) (a .carts) (a .steps) (a .reports) (s .pre) (a .ends .now) (a .ranges .now)
     (w .write-bounds .result) _ _ (w .write-bounds .ensures .0) (w .write-bounds .ensures .1 .0) (w .write-bounds .ensures .1 .1) (c .enum-told .given .1))
 
 same-length-3 : tie.Need-same-length-3
@@ -90,7 +63,7 @@ returns-2 c =
     let w = k .before .before .before .before .before .before .before in
     let s = w .before .before .before .before .before .before .before .before .before in
     let a = s .args in
-    absurd (some-book (a .plan .now) (a .edges .now) (a .speeds .now) (a .cells .now) (a .roads) (a .carts) (a .steps) (a .reports) (s .pre .0) (a .ends .now) (a .ranges .now) (s .pre .1 .0) (s .pre .1 .1)
+    absurd (some-book (a .plan .now) (a .edges .now) (a .speeds .now) (a .cells .now) (a .roads) (a .carts) (a .steps) (a .reports) (s .pre) (a .ends .now) (a .ranges .now)
     (w .write-bounds .result) _ _ (w .write-bounds .ensures .0) (w .write-bounds .ensures .1 .0) (w .write-bounds .ensures .1 .1) _ _ (k .before .x .given .1) (g .write-log .result) _ _ (g .write-log .ensures .0) (g .write-log .ensures .1 .0) (g .write-log .ensures .1 .1) (c .enum-told2 .given .1))
 
 same-length-5 : tie.Need-same-length-5
@@ -106,7 +79,7 @@ returns-3 c =
     let w = k .before .before .before .before .before .before .before in
     let s = w .before .before .before .before .before .before .before .before .before in
     let a = s .args in
-    both-written (a .plan .now) (a .edges .now) (a .speeds .now) (a .cells .now) (a .roads) (a .carts) (a .steps) (a .reports) (s .pre .0) (a .ends .now) (a .ranges .now) (s .pre .1 .0) (s .pre .1 .1)
+    both-written (a .plan .now) (a .edges .now) (a .speeds .now) (a .cells .now) (a .roads) (a .carts) (a .steps) (a .reports) (s .pre) (a .ends .now) (a .ranges .now)
     (w .write-bounds .result) _ _ (w .write-bounds .ensures .0) (w .write-bounds .ensures .1 .0) (w .write-bounds .ensures .1 .1) _ _ (k .before .x .given .1) (g .write-log .result) _ _ (g .write-log .ensures .0) (g .write-log .ensures .1 .0) (g .write-log .ensures .1 .1) _ (c .before .y .given .1)
 
 pub write-both-spec : {M : Type 1} → statement M

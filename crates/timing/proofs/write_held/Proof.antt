@@ -1,18 +1,12 @@
--- `timing::write_held` meets its contract: something is too short, no plan is held, or its bounds are written. Assumes nothing.
+-- `timing::write_held` meets its contract: the slice is too short, no plan is held, or its bounds are written. Assumes nothing.
 use borrow.Author.Needs.{needs}
 use Rattle.slice.proofs.HeldPlan.{never-short, no-plan, held-there}
-use Rattle.timing.proofs.Outcome.{short-plan, short-ends, short-ranges, all-long, none-held}
+use Rattle.timing.proofs.Outcome.{short-plan, long-plan, none-held}
 use Rattle.timing.proofs.write_held.Statement.{statement}
 use Rattle.timing.proofs.write_held.Tie as tie
 
 returns : tie.Need-returns
 returns c = let a = c .before .before .before .before .args in short-plan (a .plan .now) (a .ends .now) (a .ranges .now) (c .if1 .taken)
-
-returns-2 : tie.Need-returns-2
-returns-2 c = let a = c .before .before .before .before .before .args in short-ends (a .plan .now) (a .ends .now) (a .ranges .now) (c .before .if1 .left) (c .if2 .taken)
-
-returns-3 : tie.Need-returns-3
-returns-3 c = let a = c .before .before .before .before .before .before .args in short-ranges (a .plan .now) (a .ends .now) (a .ranges .now) (c .before .before .if1 .left) (c .before .if2 .left) (c .if3 .taken)
 
 slice-aggregate-read-plan : tie.Need-slice-aggregate-read-plan
 slice-aggregate-read-plan c = search needs
@@ -49,26 +43,24 @@ write-both-requires c κs =
     let k = c .before .before .before .before .before in
     let r = k .before .before .before .before .before .before in
     let e = r .before .before .before .before in
-    let a = e .before .before .before .before .before .before .args in (
-      held-there (a .plan .now) (e .before .before .if1 .left) (r .read-plan .result) (r .read-plan .ensures .0) _ _ _ (r .read-plan .ensures .1 .0) (r .read-plan .ensures .1 .1 .0) (r .read-plan .ensures .1 .1 .1)
-          _ _ _ _ (k .before .x .given .1),
-      (e .before .if2 .left, e .if3 .left),
-    )
+    let a = e .before .before .before .before .args in
+    held-there (a .plan .now) (e .if1 .left) (r .read-plan .result) (r .read-plan .ensures .0) _ _ _ (r .read-plan .ensures .1 .0) (r .read-plan .ensures .1 .1 .0) (r .read-plan .ensures .1 .1 .1)
+    _ _ _ _ (k .before .x .given .1)
 
-returns-4 : tie.Need-returns-4
-returns-4 c =
+returns-2 : tie.Need-returns-2
+returns-2 c =
     let r = c .before .before .before .before .before in
     let e = r .before .before .before .before in
-    let a = e .before .before .before .before .before .before .args in
-    absurd (never-short (a .plan .now) (e .before .before .if1 .left) (r .read-plan .result) (r .read-plan .ensures .0) (c .enum-told .given .1))
+    let a = e .before .before .before .before .args in
+    absurd (never-short (a .plan .now) (e .if1 .left) (r .read-plan .result) (r .read-plan .ensures .0) (c .enum-told .given .1))
 
-returns-5 : tie.Need-returns-5
-returns-5 c =
+returns-3 : tie.Need-returns-3
+returns-3 c =
     let r = c .before .before .before .before .before in
     let e = r .before .before .before .before in
-    let a = e .before .before .before .before .before .before .args in
-    all-long (a .plan .now) (a .ends .now) (a .ranges .now) (e .before .before .if1 .left) (e .before .if2 .left) (e .if3 .left) _ _ _
-    (none-held _ (a .ends .now) (a .ranges .now) (no-plan (a .plan .now) (e .before .before .if1 .left) (r .read-plan .result) (r .read-plan .ensures .0) (c .enum-told2 .given .1)))
+    let a = e .before .before .before .before .args in
+    long-plan (a .plan .now) (a .ends .now) (a .ranges .now) (e .if1 .left) _ _ _
+    (none-held _ (a .ends .now) (a .ranges .now) (no-plan (a .plan .now) (e .if1 .left) (r .read-plan .result) (r .read-plan .ensures .0) (c .enum-told2 .given .1)))
 
 same-length : tie.Need-same-length
 same-length c = search needs
@@ -76,22 +68,18 @@ same-length c = search needs
 same-length-2 : tie.Need-same-length-2
 same-length-2 c = search needs
 
-returns-6 : tie.Need-returns-6
-returns-6 c =
+returns-4 : tie.Need-returns-4
+returns-4 c =
     let b = c .before .before .before .before in
-    let k = b .before .before .before .before .before .before in
-    let r = k .before .before .before .before .before .before in
-    let e = r .before .before .before .before in
-    let a = e .before .before .before .before .before .before .args in
-    all-long (a .plan .now) (a .ends .now) (a .ranges .now) (e .before .before .if1 .left) (e .before .if2 .left) (e .if3 .left) _ _ _ (b .write-both .ensures)
+    let e = b .before .before .before .before .before .before .before .before .before .before .before .before .before .before .before .before in
+    let a = e .before .before .before .before .args in
+    long-plan (a .plan .now) (a .ends .now) (a .ranges .now) (e .if1 .left) _ _ _ (b .write-both .ensures)
 
 pub write-held-spec : {M : Type 1} → statement M
 write-held-spec =
     tie.close
     (tie.spec
     returns
-    returns-2
-    returns-3
     slice-aggregate-read-plan
     slice-aggregate-read-plan-2
     slice-aggregate-read-plan-3
@@ -103,8 +91,8 @@ write-held-spec =
     slice-aggregate-write-both-2
     slice-aggregate-write-both-3
     write-both-requires
-    returns-4
-    returns-5
+    returns-2
+    returns-3
     same-length
     same-length-2
-    returns-6)
+    returns-4)

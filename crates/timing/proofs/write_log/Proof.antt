@@ -10,11 +10,14 @@ part-requires c κs = search needs
 part-requires-2 : tie.Need-part-requires-2
 part-requires-2 c κs = search needs
 
+behind-requires : tie.Need-behind-requires
+behind-requires c κs = search needs
+
+behind-requires-2 : tie.Need-behind-requires-2
+behind-requires-2 c κs = search needs
+
 mul-write-added : tie.Need-mul-write-added
 mul-write-added c = search needs
-
-mul-write-added-2 : tie.Need-mul-write-added-2
-mul-write-added-2 c = search needs
 
 sub-write-added : tie.Need-sub-write-added
 sub-write-added c = search needs
@@ -25,11 +28,8 @@ part-write-added-start c = search needs
 part-write-added-end : tie.Need-part-write-added-end
 part-write-added-end c = search needs
 
-mul-write-added-3 : tie.Need-mul-write-added-3
-mul-write-added-3 c = search needs
-
-mul-write-added-4 : tie.Need-mul-write-added-4
-mul-write-added-4 c = search needs
+mul-write-added-2 : tie.Need-mul-write-added-2
+mul-write-added-2 c = search needs
 
 sub-write-added-2 : tie.Need-sub-write-added-2
 sub-write-added-2 c = search needs
@@ -52,13 +52,12 @@ same-length-2 c = search needs
 returns : tie.Need-returns
 returns c =
     let w = c .before .before .before .before in
-    let t = w .before .before .before in
+    let h = w .before .before .before in
+    let t = h .before .before in
     let l = t .before in
-    let s = l .before .before .before .before .before in
-    let a = s .args in
-    log-left (a .plan .now) (a .cells .now) (a .n) (a .carts) (a .steps) (a .own) (a .ends .now) (a .ranges .now) (s .pre .2) (s .pre .3) (s .pre .4)
-    _ _ (l .part .ensures) (t .part2 .ensures) (w .write-added .result) _ _
-    (w .write-added .kept .1 .1 .1 .1 .1 .0) (w .write-added .kept .1 .1 .1 .1 .1 .1 .0) (w .write-added .ensures)
+    let a = l .before .before .before .before .before .args in
+    log-left (a .plan .now) (a .cells .now) (a .n) (a .carts) (a .steps) (a .own) (a .ends .now) (a .ranges .now)
+    _ _ (l .part .ensures) (t .part2 .ensures) (h .before .behind .result) (h .behind2 .result) (h .before .behind .ensures) (h .behind2 .ensures) (w .write-added .result) _ _ (w .write-added .ensures)
 
 pub write-log-spec : {M : Type 1} → statement M
 write-log-spec =
@@ -66,13 +65,13 @@ write-log-spec =
     (tie.spec
     part-requires
     part-requires-2
+    behind-requires
+    behind-requires-2
     mul-write-added
-    mul-write-added-2
     sub-write-added
     part-write-added-start
     part-write-added-end
-    mul-write-added-3
-    mul-write-added-4
+    mul-write-added-2
     sub-write-added-2
     part-write-added-start-2
     part-write-added-end-2
