@@ -2,15 +2,16 @@
 use Prim.Native.Nat.{ℕ, _≤_, _<_}
 use native.Mathlib.Omega.{arith}
 use mathlib.Core.Path.{_≡_, refl, ap, sym, _∙_, subst}
+use mathlib.Core.Logic.{inl, inr}
 use mathlib.Core.Bool.{Bool, true, _&&_}
 use mathlib.Core.List.{List, flatMap}
 use mathlib.Core.Option.{Option, none, some}
-use lib.Dec.{T, leb, leb→le}
-use lib.IntN.{ℤ}
-use lib.ListN.{length, replicate, length-replicate}
+use lib.Dec.{T, leb}
+use lib.ListN.{length}
+use lib.Seq.{sets}
 use mir.Facts.{and-yes}
 use borrow.Author.Tests.{le-leb, lt-leb}
-use Rattle.words.specs.Words.{written}
+use Rattle.laws.proofs.Tests.{passes}
 use Rattle.network.specs.Events.{event-count}
 use Rattle.network.specs.Bounds.{bounds}
 use Rattle.network.specs.BoundArrays.{bound-ends, bound-range}
@@ -22,8 +23,9 @@ use Rattle.passes.specs.Solving.{Solving}
 use Rattle.timing.specs.declared.Bounding.{Bounding}
 use Rattle.timing.specs.Bounding.{bounding-fits, bounding, held-bounds, bounding-answer, bounding-written}
 use Rattle.hegtalim.specs.declared.Timed.{Timed}
-use Rattle.hegtalim.specs.Outcomes.{meets-needs, Timetabled, too-short, no-plan}
-use Rattle.hegtalim.proofs.Timing.{Tells, solving-is, solving-some}
+use Rattle.hegtalim.specs.Outcomes.{meets-needs, Timetabled, too-short, no-plan, timed, no-times}
+use Rattle.hegtalim.specs.Working.{Worked, done, no-room}
+use Rattle.hegtalim.proofs.Timing.{told, solving-is}
 
 -- ---- lengths
 
@@ -62,15 +64,11 @@ case-of Bounding.TooShort = 0
 case-of Bounding.NoPlan = 1
 case-of (Bounding.Bounds n own m) = 2
 
-module _ (s : List ℕ) (l : Lent) (met : meets-needs s l ≡ true) (x : Bounding)
-    (is : x ≡ bounding-answer (bounding-fits s (length (replicate {A = ℕ} 24_576 0)) (length (replicate {A = ℕ} 24_576 0))) (held s)) where
-  -- there is room
-  fits : bounding-fits s (length (replicate {A = ℕ} 24_576 0)) (length (replicate {A = ℕ} 24_576 0)) ≡ true
+module _ (s : List ℕ) (l : Lent) (met : meets-needs s l ≡ true) (x : Bounding) (is : x ≡ bounding-answer (bounding-fits s) (held s)) where
+  -- the slice is long enough
+  fits : bounding-fits s ≡ true
   unfolding bounding-fits meets-needs
-  fits =
-      let (long, _) = and-yes (leb plan-need (length s)) (long-enough l) (subst T (sym met) tt) in
-      let size : 24_576 ≤ length (replicate {A = ℕ} 24_576 0) = omega (arith, length-replicate {A = ℕ} 24_576 0) in
-      simp (le-leb plan-need (length s) (leb→le plan-need (length s) long), le-leb 24_576 (length (replicate {A = ℕ} 24_576 0)) size)
+  fits = passes (leb plan-need (length s)) (and-yes (leb plan-need (length s)) (long-enough l) (subst T (sym met) tt) .0)
 
   said : x ≡ bounding (held s)
   unfolding bounding-answer
@@ -94,9 +92,8 @@ module _ (s : List ℕ) (l : Lent) (met : meets-needs s l ≡ true) (x : Boundin
       by (some h) z = absurd (let n : _≡_ {A = ℕ} 1 2 = ap case-of z in omega arith)
 
   -- a plan, and its bounds in two arrays
-  module _ (ends ranges : List ℕ)
-      (ends-are : ends ≡ written (flatMap bound-ends (bounding-written (bounding-fits s (length (replicate {A = ℕ} 24_576 0)) (length (replicate {A = ℕ} 24_576 0))) (held s))) (replicate 24_576 0))
-      (ranges-are : ranges ≡ written (flatMap bound-range (bounding-written (bounding-fits s (length (replicate {A = ℕ} 24_576 0)) (length (replicate {A = ℕ} 24_576 0))) (held s))) (replicate 24_576 0))
+  module _ (ends₀ ranges₀ ends ranges : List ℕ)
+      (ends-are : ends ≡ sets ends₀ 0 (flatMap bound-ends (bounding-written (bounding-fits s) (held s)))) (ranges-are : ranges ≡ sets ranges₀ 0 (flatMap bound-range (bounding-written (bounding-fits s) (held s))))
       (n own m : ℕ) (q : x ≡ Bounding.Bounds n own m) where
     -- what is known of it
     record There : Type 0 where
@@ -105,8 +102,8 @@ module _ (s : List ℕ) (l : Lent) (met : meets-needs s l ≡ true) (x : Boundin
       events-are : n ≡ event-count (plan-held .plan)
       own-are : own ≡ length (bounds (plan-held .plan))
       all-are : m ≡ length (all-bounds (plan-held .plan) (plan-held .book))
-      ends-there : ends ≡ written (flatMap bound-ends (all-bounds (plan-held .plan) (plan-held .book))) (replicate 24_576 0)
-      ranges-there : ranges ≡ written (flatMap bound-range (all-bounds (plan-held .plan) (plan-held .book))) (replicate 24_576 0)
+      ends-there : ends ≡ sets ends₀ 0 (flatMap bound-ends (all-bounds (plan-held .plan) (plan-held .book)))
+      ranges-there : ranges ≡ sets ranges₀ 0 (flatMap bound-range (all-bounds (plan-held .plan) (plan-held .book)))
 
     there : There
     unfolding bounding bounding-written held-bounds
@@ -121,29 +118,46 @@ module _ (s : List ℕ) (l : Lent) (met : meets-needs s l ≡ true) (x : Boundin
               events-are = ap (λ (y : Bounding). elim y [ Bounding.TooShort ↦ 0 | Bounding.NoPlan ↦ 0 | Bounding.Bounds a b c ↦ a ]) z;
               own-are = ap (λ (y : Bounding). elim y [ Bounding.TooShort ↦ 0 | Bounding.NoPlan ↦ 0 | Bounding.Bounds a b c ↦ b ]) z;
               all-are = ap (λ (y : Bounding). elim y [ Bounding.TooShort ↦ 0 | Bounding.NoPlan ↦ 0 | Bounding.Bounds a b c ↦ c ]) z;
-              ends-there = ends-are ∙ ap (λ (b : Bool). written (flatMap bound-ends (bounding-written b (held s))) (replicate 24_576 0)) fits
-                  ∙ ap (λ (o : Option Held). written (flatMap bound-ends (held-bounds o)) (replicate 24_576 0)) e;
-              ranges-there = ranges-are ∙ ap (λ (b : Bool). written (flatMap bound-range (bounding-written b (held s))) (replicate 24_576 0)) fits
-                  ∙ ap (λ (o : Option Held). written (flatMap bound-range (held-bounds o)) (replicate 24_576 0)) e;
+              ends-there = ends-are ∙ ap (λ (b : Bool). sets ends₀ 0 (flatMap bound-ends (bounding-written b (held s)))) fits ∙ ap (λ (o : Option Held). sets ends₀ 0 (flatMap bound-ends (held-bounds o))) e;
+              ranges-there = ranges-are ∙ ap (λ (b : Bool). sets ranges₀ 0 (flatMap bound-range (bounding-written b (held s)))) fits ∙ ap (λ (o : Option Held). sets ranges₀ 0 (flatMap bound-range (held-bounds o))) e;
             }
 
-    module _ (a : Solved) (l′ : Lent) (w : Solving own m n ends ranges l a l′) where
-      -- something is found
-      pub never-unfit : ¬ (a ≡ Solved.Unfit)
-      never-unfit =
-          let t : There = there in
-          solving-some s (t .plan-held) (t .of-slice) l met n own m (t .events-are) (t .own-are) (t .all-are) ends ranges (t .ends-there) (t .ranges-there) a l′ w
+    -- what is found, and said of it
+    pub found : (a : Solved) (l′ : Lent) → Solving own m n ends ranges l a l′ → (y : Timed) → told a ≡ y → Worked (length ends₀) (length ranges₀) s l y l′
+    found a l′ w y e =
+        let t : There = there in
+        subst (λ (z : Timed). Worked (length ends₀) (length ranges₀) s l z l′) e
+        (solving-is s (t .plan-held) (t .of-slice) l met n own m (t .events-are) (t .own-are) (t .all-are) ends₀ ranges₀ ends ranges (t .ends-there) (t .ranges-there) a l′ w)
 
-      -- times
-      pub times-found : (k : ℕ) → a ≡ Solved.Times k → Timetabled s l (Timed.Times k) l′
-      times-found k e =
-          let t : There = there in
-          solving-is s (t .plan-held) (t .of-slice) l met n own m (t .events-are) (t .own-are) (t .all-are) ends ranges (t .ends-there) (t .ranges-there) a l′ w (Timed.Times k)
-          (subst (λ (y : Solved). Tells y (Timed.Times k)) (sym e) refl)
+-- ---- small arrays and large ones
 
-      -- a chain
-      pub chain-found : (k : ℕ) (c : ℤ) → a ≡ Solved.Cycle k c → Timetabled s l (Timed.NoTimes k) l′
-      chain-found k c e =
-          let t : There = there in
-          solving-is s (t .plan-held) (t .of-slice) l met n own m (t .events-are) (t .own-are) (t .all-are) ends ranges (t .ends-there) (t .ranges-there) a l′ w (Timed.NoTimes k)
-          (subst (λ (y : Solved). Tells y (Timed.NoTimes k)) (sym e) refl)
+-- which case an answer is
+abbrev pub case : Timed → ℕ
+case (Timed.Times k) = 0
+case Timed.TooShort = 1
+case Timed.NoPlan = 2
+case (Timed.NoTimes n) = 3
+
+module _ (e r : ℕ) (s : List ℕ) (l : Lent) where
+  -- large ones have room
+  pub large-done : (x : Timed) (l′ : Lent) → Worked e r s l x l′ → 24_576 ≤ e → 24_576 ≤ r → Timetabled s l x l′
+  large-done x l′ (done y k w) he hr = w
+  large-done x l′ (no-room (inl h)) he hr = absurd (omega arith)
+  large-done x l′ (no-room (inr h)) he hr = absurd (omega arith)
+
+  -- an answer that is not `TooShort` is the outcome
+  pub small-done : (x : Timed) (l′ : Lent) → Worked e r s l x l′ → (y : Timed) → x ≡ y → ¬ (case y ≡ 1) → Timetabled s l y l′
+  small-done x l′ (done z k w) y q h = subst (λ (t : Timed). Timetabled s l t l′) q w
+  small-done x l′ (no-room room) y q h = absurd (h (sym (ap case q)))
+
+  -- one that is leaves the slices lent as they came
+  short-kept : (x : Timed) (l′ : Lent) → Worked e r s l x l′ → case x ≡ 1 → l′ ≡ l
+  short-kept x l′ (no-room room) q = refl
+  short-kept x l′ (done y k (too-short h)) q = refl
+  short-kept x l′ (done y k (no-plan a b)) q = refl
+  short-kept x l′ (done y k (timed a b c t d)) q = absurd (omega arith)
+  short-kept x l′ (done y k (no-times a b c d is f)) q = absurd (omega arith)
+
+  -- so what comes then is the outcome
+  pub then-large : (x : Timed) (l′ : Lent) → Worked e r s l x l′ → case x ≡ 1 → (y : Timed) (k : Lent) → Timetabled s l′ y k → Timetabled s l y k
+  then-large x l′ w q y k t = subst (λ (m : Lent). Timetabled s m y k) (short-kept x l′ w q) t

@@ -6,8 +6,9 @@ use mathlib.Core.Logic.{_⊎_, inl, inr}
 use mathlib.Core.Bool.{Bool, true, true≢false, _&&_, cond}
 use mathlib.Core.List.{List, [], _∷_, _++_, map, flatMap, List·Memᴰ, List·Memᴰ·head, List·Memᴰ·tail, Memᴰ·append-right}
 use mathlib.Core.Option.{Option, none, some, Option·none-ne-some}
-use lib.Dec.{T, leb}
-use lib.ListN.{length, getD, drop, replicate, length-map, length-append}
+use lib.Dec.{T, leb, leb→le}
+use lib.ListN.{length, getD, drop, length-map, length-append}
+use lib.Seq.{sets, length-sets}
 use mir.Facts.{and-yes}
 use borrow.Author.Tests.{le-leb, lt-ltb, le-ltb}
 use Rattle.laws.proofs.Members.{at-place}
@@ -20,7 +21,7 @@ use Rattle.network.specs.BoundArrays.{bound-ends, hi-number, bound-range, bound
 use Rattle.network.proofs.Routes.{event-count-is}
 use Rattle.network.proofs.Judged.{judged}
 use Rattle.network.proofs.BoundArrays.{bounds-held}
-use Rattle.network.proofs.BoundStores.{by-ends, by-range, pairs-length}
+use Rattle.network.proofs.BoundStores.{by-ends, by-range, pairs-length, front-stored}
 use Rattle.schedule.specs.Book.{Book}
 use Rattle.schedule.specs.Added.{added-bounds, all-bounds, numbered-bounds}
 use Rattle.schedule.specs.Timetable.{arcs, timetable}
@@ -37,28 +38,13 @@ use Rattle.passes.proofs.Fitting.{Fitting, fitting-passes}
 use Rattle.hegtalim.specs.declared.Timed.{Timed}
 use Rattle.hegtalim.specs.Outcomes.{meets-needs, Timetabled, no-times}
 use Rattle.hegtalim.specs.Outcomes as outcomes
-
--- what is written over a front is no longer than the whole
-front-long : (front s : List ℕ) (n : ℕ) → n ≡ length front → n ≤ length (written front s)
-unfolding written
-front-long front s n e = omega (arith, e, length-append front (drop (length front) s))
+use Rattle.hegtalim.specs.Working.{Worked, done, no-room}
 
 -- the answer to what is found
-abbrev pub Tells : Solved → Timed → Type 0
-Tells Solved.Unfit x = ⊥
-Tells (Solved.Times k) x = x ≡ Timed.Times k
-Tells (Solved.Cycle n c) x = x ≡ Timed.NoTimes n
-
--- something is found
-found : Solved → ℕ
-found Solved.Unfit = 0
-found (Solved.Times k) = 1
-found (Solved.Cycle n c) = 1
-
-some-found : {own n : ℕ} {bs : List Bound} {lent : Lent} (a : Solved) (lent′ : Lent) → Solves own n bs lent a lent′ → ¬ (a ≡ Solved.Unfit)
-unfolding found
-some-found a lent′ (timed t q) e = let z : _≡_ {A = ℕ} 1 0 = ap found e in omega arith
-some-found a lent′ (cycle q is ls k c) e = let z : _≡_ {A = ℕ} 1 0 = ap found e in omega arith
+abbrev pub told : Solved → Timed
+told Solved.Unfit = Timed.TooShort
+told (Solved.Times k) = Timed.Times k
+told (Solved.Cycle n c) = Timed.NoTimes n
 
 -- ---- a chain by places is one by numbers
 
@@ -158,22 +144,42 @@ module _ (p : Plan) (b : Book) (l : Logged p b) where
       omega (arith, added, events-few, few, length-append (bounds p) (added-bounds p b))
 
   -- the bounds read from the arrays to which they were written
-  module _ (ends ranges : List ℕ) (ends-are : ends ≡ written (flatMap bound-ends bs) (replicate 24_576 0)) (ranges-are : ranges ≡ written (flatMap bound-range bs) (replicate 24_576 0)) where
-    bounds-there : bounds-in (length bs) ends ranges ≡ bs
-    unfolding written
-    bounds-there =
-        ap₂ (bounds-in (length bs)) ends-are ranges-are
-        ∙ bounds-held bs (drop (length (flatMap bound-ends bs)) (replicate 24_576 0)) (drop (length (flatMap bound-range bs)) (replicate 24_576 0))
+  module _ (ends₀ ranges₀ ends ranges : List ℕ) (ends-are : ends ≡ sets ends₀ 0 (flatMap bound-ends bs)) (ranges-are : ranges ≡ sets ranges₀ 0 (flatMap bound-range bs)) where
+    -- the arrays are as long as they were
+    pub ends-long : length ends ≡ length ends₀
+    ends-long = ap length ends-are ∙ length-sets ends₀ 0 (flatMap bound-ends bs)
 
-    -- they fit
-    network-there : network-fits (length bs) (event-count p) ends ranges ≡ true
+    pub ranges-long : length ranges ≡ length ranges₀
+    ranges-long = ap length ranges-are ∙ length-sets ranges₀ 0 (flatMap bound-range bs)
+
+    -- where there is room they are all there
+    pub bounds-there : 2 * length bs ≤ length ends₀ → 2 * length bs ≤ length ranges₀ → bounds-in (length bs) ends ranges ≡ bs
+    unfolding written
+    bounds-there he hr =
+        ap₂ (bounds-in (length bs)) (ends-are ∙ front-stored (flatMap bound-ends bs) ends₀ (omega (arith, he, pairs-length bound-ends by-ends bs)))
+        (ranges-are ∙ front-stored (flatMap bound-range bs) ranges₀ (omega (arith, hr, pairs-length bound-range by-range bs)))
+        ∙ bounds-held bs (drop (length (flatMap bound-ends bs)) ends₀) (drop (length (flatMap bound-range bs)) ranges₀)
+
+    -- and fit
+    pub network-there : 24_576 ≤ length ends₀ → 24_576 ≤ length ranges₀ → network-fits (length bs) (event-count p) ends ranges ≡ true
     unfolding network-fits
-    network-there =
+    network-there he hr =
         let many : length bs ≤ 12_288 = bounds-many in
-        let ends-long : 2 * length bs ≤ length ends = subst (λ (x : List ℕ). 2 * length bs ≤ length x) (sym ends-are) (front-long (flatMap bound-ends bs) (replicate 24_576 0) (2 * length bs) (sym (pairs-length bound-ends by-ends bs))) in
-        let ranges-long : 2 * length bs ≤ length ranges = subst (λ (x : List ℕ). 2 * length bs ≤ length x) (sym ranges-are) (front-long (flatMap bound-range bs) (replicate 24_576 0) (2 * length bs) (sym (pairs-length bound-range by-range bs))) in
-        let fit : bounds-fit (event-count p) (bounds-in (length bs) ends ranges) ≡ true = ap (bounds-fit (event-count p)) bounds-there ∙ bounds-fits in
-        simp (le-leb (length bs) 12_288 many, le-leb (2 * length bs) (length ends) ends-long, le-leb (2 * length bs) (length ranges) ranges-long, le-leb 1 (event-count p) (some-event p b l), le-leb (event-count p) 4096 events-few, fit)
+        let fit : bounds-fit (event-count p) (bounds-in (length bs) ends ranges) ≡ true = ap (bounds-fit (event-count p)) (bounds-there (omega (arith, many, he)) (omega (arith, many, hr))) ∙ bounds-fits in
+        simp (le-leb (length bs) 12_288 many, le-leb (2 * length bs) (length ends) (omega (arith, many, he, ends-long)), le-leb (2 * length bs) (length ranges) (omega (arith, many, hr, ranges-long)), le-leb 1 (event-count p) (some-event p b l), le-leb (event-count p) 4096 events-few, fit)
+
+-- a network that fits has room for its bounds
+fits-says : (m n : ℕ) (ends ranges : List ℕ) (more : Bool) → (network-fits m n ends ranges && more) ≡ true → (2 * m ≤ length ends) × (2 * m ≤ length ranges)
+unfolding network-fits
+fits-says m n ends ranges more e =
+    let to-events : Bool = leb m 12_288 && leb (2 * m) (length ends) && leb (2 * m) (length ranges) && leb 1 n && leb n 4096 in
+    let (fits, _) = and-yes (network-fits m n ends ranges) more (subst T (sym e) tt) in
+    let (a, _) = and-yes to-events (bounds-fit n (bounds-in m ends ranges)) fits in
+    let (c, _) = and-yes (leb m 12_288 && leb (2 * m) (length ends) && leb (2 * m) (length ranges) && leb 1 n) (leb n 4096) a in
+    let (d, _) = and-yes (leb m 12_288 && leb (2 * m) (length ends) && leb (2 * m) (length ranges)) (leb 1 n) c in
+    let (f, r) = and-yes (leb m 12_288 && leb (2 * m) (length ends)) (leb (2 * m) (length ranges)) d in
+    let (_, g) = and-yes (leb m 12_288) (leb (2 * m) (length ends)) f in
+    (leb→le (2 * m) (length ends) g, leb→le (2 * m) (length ranges) r)
 
 -- ---- what is found
 
@@ -189,15 +195,14 @@ module _ (s : List ℕ) (h : Held) (e : held s ≡ some h) (lent : Lent) (met : 
   its-own = length (bounds (h .plan))
 
   -- times or a chain of its bounds are a timetable's
-  by-bounds : (a : Solved) (lent′ : Lent) → Solves its-own (event-count (h .plan)) all lent a lent′ → (x : Timed) → Tells a x → Timetabled s lent x lent′
+  by-bounds : (a : Solved) (lent′ : Lent) → Solves its-own (event-count (h .plan)) all lent a lent′ → Timetabled s lent (told a) lent′
   unfolding times-of timetable arcs is-chain
-  by-bounds a lent′ (timed t q) x tells = subst (λ (y : Timed). Timetabled s lent y (times-written t lent)) (sym tells) (outcomes.timed met h e t q)
-  by-bounds a lent′ (cycle q is ls k c) x tells =
+  by-bounds a lent′ (timed t q) = outcomes.timed met h e t q
+  by-bounds a lent′ (cycle q is ls k c) =
       let items : List Item = map (picked its-own all) is in
       let chain : T (closed-below-0 (legs (numbered-bounds (h .plan) (h .book)) items)) =
       subst (λ (o : Option (List Leg)). T (closed-below-0 o)) (sym (legs-picked (h .plan) (h .book) logged is ls k)) c in
-      subst (λ (y : Timed). Timetabled s lent y (chain-written items lent)) (ap Timed.NoTimes (length-map is (picked its-own all)) ∙ sym tells)
-      (no-times met h e q items chain)
+      subst (λ (n : ℕ). Timetabled s lent (Timed.NoTimes n) (chain-written items lent)) (length-map is (picked its-own all)) (no-times met h e q items chain)
 
   -- the three slices lent have room
   lent-there : long-enough lent ≡ true
@@ -205,29 +210,29 @@ module _ (s : List ℕ) (h : Held) (e : held s ≡ some h) (lent : Lent) (met : 
   lent-there = passes (long-enough lent) (and-yes (leb plan-need (length s)) (long-enough lent) (subst T (sym met) tt) .1)
 
   -- what is found of the arrays to which they were written
-  module _ (n own m : ℕ) (qn : n ≡ event-count (h .plan)) (qo : own ≡ its-own) (qm : m ≡ length all) (ends ranges : List ℕ)
-      (qe : ends ≡ written (flatMap bound-ends all) (replicate 24_576 0)) (qr : ranges ≡ written (flatMap bound-range all) (replicate 24_576 0)) where
-    -- is found of these bounds
-    of-bounds : (a : Solved) (lent′ : Lent) → Solving its-own (length all) (event-count (h .plan)) ends ranges lent a lent′
-        → Solves its-own (event-count (h .plan)) all lent a lent′
-    of-bounds a lent′ (unfit q) =
-        let fits : (network-fits (length all) (event-count (h .plan)) ends ranges && long-enough lent) ≡ true =
-        ap (λ (x : Bool). x && long-enough lent) (network-there (h .plan) (h .book) logged ends ranges qe qr) ∙ lent-there in
-        absurd (true≢false (sym fits ∙ q))
+  module _ (n own m : ℕ) (qn : n ≡ event-count (h .plan)) (qo : own ≡ its-own) (qm : m ≡ length all) (ends₀ ranges₀ ends ranges : List ℕ)
+      (qe : ends ≡ sets ends₀ 0 (flatMap bound-ends all)) (qr : ranges ≡ sets ranges₀ 0 (flatMap bound-range all)) where
+    -- is found of these bounds, unless there is no room
+    of-bounds : (a : Solved) (lent′ : Lent) → Solving its-own (length all) (event-count (h .plan)) ends ranges lent a lent′ → Worked (length ends₀) (length ranges₀) s lent (told a) lent′
+    of-bounds a lent′ (unfit q) = no-room (by (below-or-not (length ends₀) 24_576) (below-or-not (length ranges₀) 24_576))
+      where
+        by : (length ends₀ < 24_576) ⊎ (24_576 ≤ length ends₀) → (length ranges₀ < 24_576) ⊎ (24_576 ≤ length ranges₀) → (length ends₀ < 24_576) ⊎ (length ranges₀ < 24_576)
+        by (inl x) y = inl x
+        by (inr x) (inl y) = inr y
+        by (inr x) (inr y) =
+            let fits : (network-fits (length all) (event-count (h .plan)) ends ranges && long-enough lent) ≡ true =
+            ap (λ (x : Bool). x && long-enough lent) (network-there (h .plan) (h .book) logged ends₀ ranges₀ ends ranges qe qr x y) ∙ lent-there in
+            absurd (true≢false (sym fits ∙ q))
     of-bounds a lent′ (solved q x y w) =
-        subst (λ (cs : List Bound). Solves its-own (event-count (h .plan)) cs lent x y) (bounds-there (h .plan) (h .book) logged ends ranges qe qr) w
+        let (he, hr) = fits-says (length all) (event-count (h .plan)) ends ranges (long-enough lent) q in
+        let room : 2 * length all ≤ length ends₀ = omega (arith, he, ends-long (h .plan) (h .book) logged ends₀ ranges₀ ends ranges qe qr) in
+        let rooms : 2 * length all ≤ length ranges₀ = omega (arith, hr, ranges-long (h .plan) (h .book) logged ends₀ ranges₀ ends ranges qe qr) in
+        done (told x) y (by-bounds x y (
+          subst (λ (cs : List Bound). Solves its-own (event-count (h .plan)) cs lent x y) (bounds-there (h .plan) (h .book) logged ends₀ ranges₀ ends ranges qe qr room rooms) w))
 
     -- whatever their numbers are called
-    solves-there : (a : Solved) (lent′ : Lent) → Solving own m n ends ranges lent a lent′ → Solves its-own (event-count (h .plan)) all lent a lent′
-    solves-there a lent′ w =
+    pub solving-is : (a : Solved) (lent′ : Lent) → Solving own m n ends ranges lent a lent′ → Worked (length ends₀) (length ranges₀) s lent (told a) lent′
+    solving-is a lent′ w =
         of-bounds a lent′
         (subst (λ (k : ℕ). Solving its-own (length all) k ends ranges lent a lent′) qn
         (subst (λ (k : ℕ). Solving its-own k n ends ranges lent a lent′) qm (subst (λ (k : ℕ). Solving k m n ends ranges lent a lent′) qo w)))
-
-    -- so it is the outcome
-    pub solving-is : (a : Solved) (lent′ : Lent) → Solving own m n ends ranges lent a lent′ → (x : Timed) → Tells a x → Timetabled s lent x lent′
-    solving-is a lent′ w = by-bounds a lent′ (solves-there a lent′ w)
-
-    -- and there is one
-    pub solving-some : (a : Solved) (lent′ : Lent) → Solving own m n ends ranges lent a lent′ → ¬ (a ≡ Solved.Unfit)
-    solving-some a lent′ w = some-found a lent′ (solves-there a lent′ w)

@@ -25,6 +25,7 @@ ghost use Rattle.schedule.specs.Book.{_at_};
 ghost use Rattle.limits.specs.Limits.{of-paths};
 ghost use Rattle.book.specs.Log.{checked};
 ghost use Rattle.hegtalim.specs.Outcomes.{load-judged, load, report, Timetabled, TimetabledNumber};
+ghost use Rattle.hegtalim.specs.Working.{Worked};
 
 // What a load answers; specs/Answers.antt gives each case of each answer its number and values.
 pub enum Loaded {
@@ -189,17 +190,22 @@ pub fn report(plan: &mut [u8], cart: u64, time: u64) -> Reported
     }
 }
 
-// The times of the plan that a slice holds, or a chain.
-fn time_plan(plan: &[u8], times: &mut [u8], numbers: &mut [u8], directions: &mut [u8]) -> Timed
+// The times of the plan that a slice holds, or a chain, worked out in two arrays: `TooShort` where they have no room for its bounds.
+fn time_in(
+    plan: &[u8],
+    ends: &mut [u16],
+    ranges: &mut [u64],
+    times: &mut [u8],
+    numbers: &mut [u8],
+    directions: &mut [u8],
+) -> Timed
     requires { ⌜ (233472 ≤ length (now plan)) × (32768 ≤ length (now times)) × (8192 ≤ length (now numbers)) × (4096 ≤ length (now directions)) ⌝ }
-    ensures { λ r. ⌜ Timetabled (now (plan .entry))
+    ensures { λ r. ⌜ Worked (length (now (ends .entry))) (length (now (ranges .entry))) (now (plan .entry))
         (record { times = now (times .entry); chain-bounds = now (numbers .entry); chain-directions = now (directions .entry) })
         r
         (record { times = now (times .exit); chain-bounds = now (numbers .exit); chain-directions = now (directions .exit) }) ⌝ }
 {
-    let mut ends = [0u16; 24576];
-    let mut ranges = [0u64; 24576];
-    let x = timing::write_held(plan, &mut ends, &mut ranges);
+    let x = timing::write_held(plan, ends, ranges);
     match x {
         Bounding::TooShort => Timed::TooShort,
         Bounding::NoPlan => Timed::NoPlan,
@@ -208,13 +214,59 @@ fn time_plan(plan: &[u8], times: &mut [u8], numbers: &mut [u8], directions: &mut
             own: m,
             all: k,
         } => {
-            let y = passes::solve(&ends, &ranges, m, k, n, times, numbers, directions);
+            let y = passes::solve(ends, ranges, m, k, n, times, numbers, directions);
             match y {
                 Solved::Unfit => Timed::TooShort,
                 Solved::Times { passes: j } => Timed::Times { passes: j },
                 Solved::Cycle { length: j, cost: _ } => Timed::NoTimes { length: j },
             }
         }
+    }
+}
+
+// The same in small arrays, which are cleared in no time; many bounds have no room there.
+fn time_small(plan: &[u8], times: &mut [u8], numbers: &mut [u8], directions: &mut [u8]) -> Timed
+    requires { ⌜ (233472 ≤ length (now plan)) × (32768 ≤ length (now times)) × (8192 ≤ length (now numbers)) × (4096 ≤ length (now directions)) ⌝ }
+    ensures { λ r. ⌜ Worked 4096 4096 (now (plan .entry))
+        (record { times = now (times .entry); chain-bounds = now (numbers .entry); chain-directions = now (directions .entry) })
+        r
+        (record { times = now (times .exit); chain-bounds = now (numbers .exit); chain-directions = now (directions .exit) }) ⌝ }
+{
+    let mut ends = [0u16; 4096];
+    let mut ranges = [0u64; 4096];
+    time_in(plan, &mut ends, &mut ranges, times, numbers, directions)
+}
+
+// The same in arrays that have room for all bounds of any plan.
+fn time_large(plan: &[u8], times: &mut [u8], numbers: &mut [u8], directions: &mut [u8]) -> Timed
+    requires { ⌜ (233472 ≤ length (now plan)) × (32768 ≤ length (now times)) × (8192 ≤ length (now numbers)) × (4096 ≤ length (now directions)) ⌝ }
+    ensures { λ r. ⌜ Timetabled (now (plan .entry))
+        (record { times = now (times .entry); chain-bounds = now (numbers .entry); chain-directions = now (directions .entry) })
+        r
+        (record { times = now (times .exit); chain-bounds = now (numbers .exit); chain-directions = now (directions .exit) }) ⌝ }
+{
+    let mut ends = [0u16; 24576];
+    let mut ranges = [0u64; 24576];
+    time_in(plan, &mut ends, &mut ranges, times, numbers, directions)
+}
+
+// The times of the plan that a slice holds, or a chain. Small arrays are tried first where the table of paths is short.
+fn time_plan(plan: &[u8], times: &mut [u8], numbers: &mut [u8], directions: &mut [u8]) -> Timed
+    requires { ⌜ (233472 ≤ length (now plan)) × (32768 ≤ length (now times)) × (8192 ≤ length (now numbers)) × (4096 ≤ length (now directions)) ⌝ }
+    ensures { λ r. ⌜ Timetabled (now (plan .entry))
+        (record { times = now (times .entry); chain-bounds = now (numbers .entry); chain-directions = now (directions .entry) })
+        r
+        (record { times = now (times .exit); chain-bounds = now (numbers .exit); chain-directions = now (directions .exit) }) ⌝ }
+{
+    if plan[132_608] != 0 {
+        return time_large(plan, times, numbers, directions);
+    }
+    let x = time_small(plan, times, numbers, directions);
+    match x {
+        Timed::TooShort => time_large(plan, times, numbers, directions),
+        Timed::NoPlan => Timed::NoPlan,
+        Timed::Times { passes: k } => Timed::Times { passes: k },
+        Timed::NoTimes { length: n } => Timed::NoTimes { length: n },
     }
 }
 
