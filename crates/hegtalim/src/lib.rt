@@ -258,7 +258,7 @@ fn time_plan(plan: &[u8], times: &mut [u8], numbers: &mut [u8], directions: &mut
         r
         (record { times = now (times .exit); chain-bounds = now (numbers .exit); chain-directions = now (directions .exit) }) ⌝ }
 {
-    if plan[132_608] != 0 {
+    if plan[133_120] != 0 {
         return time_large(plan, times, numbers, directions);
     }
     let x = time_small(plan, times, numbers, directions);
