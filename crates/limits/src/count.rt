@@ -313,7 +313,7 @@ pub(crate) fn few_orders(
     most: usize,
 ) -> bool
     requires { ⌜ (carts ≤ 64) × (1 ≤ steps) × (steps ≤ 1024) × (carts * steps ≤ length (now cells)) ⌝ }
-    requires { ⌜ (moved ≡ total moves (paths-in carts steps (now cells))) × (carts + moved ≤ 1408) × (most ≤ 8192) ⌝ }
+    requires { ⌜ (moved ≡ total moves (paths-in carts steps (now cells))) × (carts + moved ≤ 1408) × (most ≤ 65536) ⌝ }
     ensures { λ r. ⌜ r ≡ leb (orders-among (stops 1 (paths-in carts steps (now (cells .entry))))) most ⌝ }
 {
     if carts * moved <= most + moved {
