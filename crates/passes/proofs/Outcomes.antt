@@ -66,6 +66,10 @@ module _ (bs : List Bound) (n : ℕ) (sums : List ℤ) (codes : List ℕ) (r : F
       by : Finds bs n sums codes (Found.Looped x) → (length codes ≡ n) × Coded bs codes × CycleFound bs codes x
       by (finds-cycle y l c g) = (l, c, g)
 
+-- what is found of so many events, and what it is
+pub found-of : {bs : List Bound} {n m : ℕ} {sums : List ℤ} {codes : List ℕ} {r r′ : Found} → n ≡ m → r ≡ r′ → Finds bs n sums codes r → Finds bs m sums codes r′
+found-of {bs} {n} {m} {sums} {codes} {r} {r′} e q f = subst (Finds bs m sums codes) q (subst (λ (i : ℕ). Finds bs i sums codes r) e f)
+
 -- ---- what is left
 
 module _ (own n : ℕ) (bs : List Bound) (l : Lent) where

@@ -10,11 +10,12 @@ use lib.Seq.{length-take-le}
 use Rattle.laws.proofs.Signed.{Within}
 use Rattle.network.specs.Bounds.{Bound}
 use Rattle.network.specs.BoundArrays.{bounds-in}
-use Rattle.passes.specs.Solving.{bound-fits, bounds-fit, no-bound}
+use Rattle.passes.specs.Solving.{bound-fits, bounds-fit, network-fits, no-bound}
 use Rattle.passes.specs.Places.{bound-at}
 use Rattle.passes.specs.Marks.{Coded}
 use Rattle.passes.specs.Values.{InRange}
 use Rattle.passes.proofs.Fitting.{bounds-length, bound-is, place-fits}
+use Rattle.passes.proofs.Networks.{network}
 use Rattle.passes.proofs.Codes.{none-coded}
 use Rattle.passes.proofs.Outcomes.{take-replicate}
 use Rattle.passes.proofs.Checks.{range-set}
@@ -50,6 +51,32 @@ module _ (m n : ℕ) (ends ranges : List ℕ) where
     range = r;
     coded = c (bounds-in m ends ranges) (omega (arith, bounds-length m ends ranges)) (bound-is m ends ranges i no-bound h) (k .coded);
   }
+
+-- ---- from one function that sweeps to the next
+
+-- what each of them asks for: a network, and values and parents of its events
+abbrev pub Sweepable : ℕ → List ℕ → List ℕ → List ℤ → List ℕ → Type 0
+Sweepable m ends ranges values parents =
+    (network-fits m (length values) ends ranges ≡ true) × ((length parents ≡ length values) × InRange values × Coded (bounds-in m ends ranges) parents)
+
+module _ (m : ℕ) (ends ranges : List ℕ) (values : List ℤ) (parents : List ℕ) (s : Sweepable m ends ranges values parents) where
+  -- what sweeps over the first of the bounds ask for
+  pub may-sweep : (count : ℕ) → count ≤ m
+      → ((m ≤ 12_288) × (2 * m ≤ length ends) × (2 * m ≤ length ranges) × (count ≤ m))
+      × (((bounds-fit (length values) (bounds-in m ends ranges) ≡ true) × (length parents ≡ length values) × InRange values)
+      × (Coded (bounds-in m ends ranges) parents × (1 ≤ length values) × (length values ≤ 4096)))
+  may-sweep count h =
+      let w = network m (length values) ends ranges (s .0) in
+      let l = w .limits in (
+        (l .few-bounds, l .ends-long, l .ranges-long, h),
+        ((w .all-fit, s .1 .0, s .1 .1), (s .1 .2, l .some-event, l .few-events)),
+      )
+
+  -- what they leave can be swept again
+  pub swept : (values′ : List ℤ) (parents′ : List ℕ) → length values′ ≡ length values → length parents′ ≡ length parents
+      → InRange values′ → Coded (bounds-in m ends ranges) parents′ → Sweepable m ends ranges values′ parents′
+  swept values′ parents′ long parents-long range coded =
+      (ap (λ (i : ℕ). network-fits m i ends ranges) long ∙ s .0, (parents-long ∙ s .1 .0 ∙ sym long, range, coded))
 
 -- ---- at first
 

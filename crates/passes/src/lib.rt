@@ -8,11 +8,11 @@ mod sweeping;
 mod weights;
 
 ghost use mathlib.Core.Path.{_≡_};
-ghost use Prim.Native.Nat.{_+_, _*_, _≤_, _<_};
+ghost use Prim.Native.Nat.{ℕ, _+_, _*_, _≤_, _<_};
 ghost use lib.ListN.{length, replicate};
 ghost use Rattle.network.specs.BoundArrays.{bounds-in};
 ghost use mathlib.Core.Bool.{true};
-ghost use mathlib.Core.List.{map};
+ghost use mathlib.Core.List.{List, map};
 ghost use Rattle.words.specs.Words.{words, written};
 ghost use Rattle.walks.specs.Passes.{at-start};
 ghost use Rattle.schedule.specs.Timetable.{time};
@@ -228,25 +228,6 @@ fn least(a: usize, b: usize) -> usize
     b
 }
 
-// Sweeps for times. What a log adds leads from the start alone, so that after the first sweep those of the plan's own are enough.
-fn sweep_for_times(
-    ends: &[u16],
-    ranges: &[u64],
-    own: usize,
-    bounds: usize,
-    values: &mut [i64],
-    parents: &mut [u16],
-)
-    requires { ⌜ network-fits bounds (length (now values)) (now ends) (now ranges) ≡ true ⌝ }
-    requires { ⌜ (length (now parents) ≡ length (now values)) × InRange (now values) × Coded (bounds-in bounds (now ends) (now ranges)) (now parents) ⌝ }
-    ensures range { λ _. ⌜ InRange (now (values .exit)) ⌝ }
-    ensures coded { λ _. ⌜ Coded (bounds-in bounds (now (ends .entry)) (now (ranges .entry))) (now (parents .exit)) ⌝ }
-{
-    sweeping::sweeps(ends, ranges, bounds, bounds, 1, values, parents);
-    let count = least(own, bounds);
-    sweeping::sweeps(ends, ranges, bounds, count, 64, values, parents);
-}
-
 // Sweeps for a cycle, over all bounds, and looks for one behind an event that the last of them may have raised.
 fn sweep_for_cycle(
     ends: &[u16],
@@ -267,7 +248,43 @@ fn sweep_for_cycle(
     Found::Nothing
 }
 
-// The fast way: values found by sweeps, and believed where they are a certificate; or a cycle, believed where it is one.
+// What is believed of values: times where they are a certificate, whatever the parents are; else nothing, and they stay as they are.
+fn believe(ends: &[u16], ranges: &[u64], bounds: usize, values: &mut [i64]) -> Found
+    requires { ⌜ (network-fits bounds (length (now values)) (now ends) (now ranges) ≡ true) × InRange (now values) ⌝ }
+    ensures finds { λ r. ⌜ ((parents : List ℕ) → Finds (bounds-in bounds (now (ends .entry)) (now (ranges .entry))) (length (now (values .entry))) (now (values .exit)) parents r) ⌝ }
+    ensures stay { λ r. ⌜ (r ≡ Found.Nothing → now (values .exit) ≡ now (values .entry)) ⌝ }
+{
+    if certificate::is_certificate(ends, ranges, bounds, values) {
+        return Found::Settled(certificate::round(values));
+    }
+    Found::Nothing
+}
+
+// Sweeps over the plan's own bounds, since what a log adds leads from the start alone, and what comes of them; else a cycle.
+fn sweep_on(
+    ends: &[u16],
+    ranges: &[u64],
+    own: usize,
+    bounds: usize,
+    values: &mut [i64],
+    parents: &mut [u16],
+) -> Found
+    requires { ⌜ network-fits bounds (length (now values)) (now ends) (now ranges) ≡ true ⌝ }
+    requires { ⌜ (length (now parents) ≡ length (now values)) × InRange (now values) × Coded (bounds-in bounds (now ends) (now ranges)) (now parents) ⌝ }
+    ensures { λ r. ⌜ Finds (bounds-in bounds (now (ends .entry)) (now (ranges .entry))) (length (now (values .entry))) (now (values .exit)) (now (parents .exit)) r ⌝ }
+{
+    let count = least(own, bounds);
+    sweeping::sweeps(ends, ranges, bounds, count, 64, values, parents);
+    let x = believe(ends, ranges, bounds, values);
+    match x {
+        Found::Settled(k) => Found::Settled(k),
+        Found::Looped(at) => Found::Looped(at),
+        Found::Nothing => sweep_for_cycle(ends, ranges, bounds, values, parents),
+    }
+}
+
+// The fast way: values found by sweeps, and believed where they are a certificate; or a cycle, believed where it is one. Where there are hardly more of the
+// plan's own bounds than events, as for a cart alone, the first sweep should be enough.
 fn quick(
     ends: &[u16],
     ranges: &[u64],
@@ -280,11 +297,16 @@ fn quick(
     requires { ⌜ (length (now parents) ≡ length (now values)) × InRange (now values) × Coded (bounds-in bounds (now ends) (now ranges)) (now parents) ⌝ }
     ensures { λ r. ⌜ Finds (bounds-in bounds (now (ends .entry)) (now (ranges .entry))) (length (now (values .entry))) (now (values .exit)) (now (parents .exit)) r ⌝ }
 {
-    sweep_for_times(ends, ranges, own, bounds, values, parents);
-    if certificate::is_certificate(ends, ranges, bounds, values) {
-        return Found::Settled(certificate::round(values));
+    sweeping::sweeps(ends, ranges, bounds, bounds, 1, values, parents);
+    if values.len() < own {
+        return sweep_on(ends, ranges, own, bounds, values, parents);
     }
-    sweep_for_cycle(ends, ranges, bounds, values, parents)
+    let x = believe(ends, ranges, bounds, values);
+    match x {
+        Found::Settled(k) => Found::Settled(k),
+        Found::Looped(at) => Found::Looped(at),
+        Found::Nothing => sweep_on(ends, ranges, own, bounds, values, parents),
+    }
 }
 
 // The fast way, and where nothing comes of it the passes.

@@ -1,54 +1,58 @@
--- `passes::quick` meets its contract: values that are a certificate are believed, and where they are not a cycle that is one.
+-- `passes::quick` meets its contract: what comes of the first sweep is believed, or what comes of further ones.
 -- Assumes nothing.
-use Prim.Native.Nat.{ℕ}
 use native.Mathlib.Omega.{arith}
-use mathlib.Core.Path.{_≡_, ap, sym, _∙_, subst}
-use mathlib.Core.Bool.{true}
+use mathlib.Core.Path.{_≡_, refl, sym, _∙_, subst}
+use mathlib.Core.List.{List}
+use lib.IntN.{ℤ}
 use lib.ListN.{length}
 use borrow.Author.Needs.{needs}
 use Rattle.network.specs.BoundArrays.{bounds-in}
 use Rattle.passes.specs.declared.Found.{Found}
-use Rattle.passes.specs.Solving.{bounds-fit, network-fits}
-use Rattle.passes.specs.Marks.{Finds, finds-times}
-use Rattle.passes.proofs.Networks.{Network, network}
-use Rattle.passes.proofs.Believing.{believed}
+use Rattle.passes.specs.Marks.{Finds}
+use Rattle.passes.proofs.Outcomes.{found-of}
+use Rattle.passes.proofs.Sweeps.{Sweepable, may-sweep, swept}
 use Rattle.passes.proofs.quick.Statement.{statement}
 use Rattle.passes.proofs.quick.Tie as tie
 
--- the arrays hold a network
-net : (b : tie.Start) → Network (b .args .bounds) (length (b .args .values .now)) (b .args .ends .now) (b .args .ranges .now)
-net b = network (b .args .bounds) (length (b .args .values .now)) (b .args .ends .now) (b .args .ranges .now) (b .pre .0)
-
--- the sweeps leave as many values
-long : (c : tie.After-sweep-for-times) → length (c .sweep-for-times .last .1 .1 .1 .1 .0) ≡ length (c .before .before .before .before .before .before .args .values .now)
-long c = c .sweep-for-times .kept .1 .1 .1 .1 .0
-
-fits : (c : tie.After-sweep-for-times)
+-- what the sweeps leave can be swept again
+again : (c : tie.After-sweeps)
     → let a = c .before .before .before .before .before .before .args in
-    bounds-fit (length (c .sweep-for-times .last .1 .1 .1 .1 .0)) (bounds-in (a .bounds) (a .ends .now) (a .ranges .now)) ≡ true
-fits c =
+    Sweepable (a .bounds) (a .ends .now) (a .ranges .now) (c .sweeps .last .1 .1 .1 .1 .1 .0) (c .sweeps .last .1 .1 .1 .1 .1 .1 .0)
+again c =
     let b = c .before .before .before .before .before .before in
     let a = b .args in
-    ap (λ (i : ℕ). bounds-fit i (bounds-in (a .bounds) (a .ends .now) (a .ranges .now))) (long c) ∙ net b .all-fit
+    let r = c .sweeps in
+    swept (a .bounds) (a .ends .now) (a .ranges .now) (a .values .now) (a .parents .now) (b .pre) (r .last .1 .1 .1 .1 .1 .0) (r .last .1 .1 .1 .1 .1 .1 .0)
+    (r .kept .1 .1 .1 .1 .1 .0) (r .kept .1 .1 .1 .1 .1 .1 .0) (r .ensures .1 .0) (r .ensures .1 .1)
 
-sweep-for-times-requires : tie.Need-sweep-for-times-requires
-sweep-for-times-requires c κs = search needs
+-- what is believed is found, whichever it is
+found : (c : tie.After-believe) (x : Found) → c .believe .result ≡ x
+    → let a = c .before .before .before .before .before .before .before .before .before .before .before .before .args in
+    let codes = c .before .before .before .before .before .before .sweeps .last .1 .1 .1 .1 .1 .1 .0 in
+    Finds (bounds-in (a .bounds) (a .ends .now) (a .ranges .now)) (length (a .values .now)) (c .believe .last .1 .1 .1 .0) codes x
+found c x e =
+    let r = c .before .before .before .before .before .before .sweeps in
+    found-of (r .kept .1 .1 .1 .1 .1 .0) e (c .believe .ensures .0 (r .last .1 .1 .1 .1 .1 .1 .0))
 
-is-certificate-requires : tie.Need-is-certificate-requires
-is-certificate-requires c κs =
-    let l = net (c .before .before .before .before .before .before .before .before .before .before) .limits in
-    let r = c .before .before .before .before in (
-      (l .few-bounds, l .ends-long, l .ranges-long),
-      ((fits r, r .sweep-for-times .ensures .0), (omega (arith, l .some-event, long r), omega (arith, l .few-events, long r))),
-    )
+-- where nothing is, what the sweeps left is there still
+stays : (c : tie.After-believe) → c .believe .result ≡ Found.Nothing
+    → let a = c .before .before .before .before .before .before .before .before .before .before .before .before .args in
+    let codes = c .before .before .before .before .before .before .sweeps .last .1 .1 .1 .1 .1 .1 .0 in
+    Sweepable (a .bounds) (a .ends .now) (a .ranges .now) (c .believe .last .1 .1 .1 .0) codes
+stays c e =
+    let a = c .before .before .before .before .before .before .before .before .before .before .before .before .args in
+    let r = c .before .before .before .before .before .before in
+    subst (λ (x : List ℤ). Sweepable (a .bounds) (a .ends .now) (a .ranges .now) x (r .sweeps .last .1 .1 .1 .1 .1 .1 .0)) (sym (c .believe .ensures .1 e)) (again r)
 
-round-requires : tie.Need-round-requires
-round-requires c κs =
-    let l = net (c .before .before .before .before .before .before .before .before .before .before .before .before .before) .limits in
-    let r = c .before .before .before .before .before .before .before in (
-      (r .sweep-for-times .ensures .0, c .before .before .is-certificate .ensures (c .before .if1 .taken) .not-below),
-      (omega (arith, l .some-event, long r), omega (arith, l .few-events, long r)),
-    )
+sweeps-requires : tie.Need-sweeps-requires
+sweeps-requires c κs =
+    let b = c .before .before .before .before .before in
+    let a = b .args in
+    may-sweep (a .bounds) (a .ends .now) (a .ranges .now) (a .values .now) (a .parents .now) (b .pre) (a .bounds) (omega arith)
+
+sweep-on-requires : tie.Need-sweep-on-requires
+sweep-on-requires c κs =
+    again (c .before .before .before .before .before .before)
 
 same-length : tie.Need-same-length
 same-length c = search needs
@@ -58,25 +62,25 @@ same-length-2 c = search needs
 
 returns : tie.Need-returns
 returns c =
-    let b = c .before .before .before .before .before .before .before .before .before .before .before .before .before .before .before in
-    let a = b .args in
-    let l = net b .limits in
-    let r = c .before .before .before .before .before .before .before .before .before in
-    let bs = bounds-in (a .bounds) (a .ends .now) (a .ranges .now) in
-    let t = c .before .round in
-    subst (λ (i : ℕ). Finds bs i (t .last .0) (r .sweep-for-times .last .1 .1 .1 .1 .1 .0) (Found.Settled (t .result))) (long r)
-    (finds-times (t .result)
-    (believed bs (r .sweep-for-times .last .1 .1 .1 .1 .0) (t .last .0) (t .result) (fits r) (omega (arith, l .some-event, long r)) (omega (arith, l .few-events, long r))
-    (c .before .before .before .before .is-certificate .ensures (c .before .before .before .if1 .taken)) (t .ensures) (t .kept .0)))
+    found-of (c .before .before .before .before .before .before .before .before .before .before .sweeps .kept .1 .1 .1 .1 .1 .0) refl (c .before .before .before .sweep-on .ensures)
 
-sweep-for-cycle-requires : tie.Need-sweep-for-cycle-requires
-sweep-for-cycle-requires c κs =
-    let b = c .before .before .before .before .before .before .before .before .before .before .before .before .before .before in
-    let r = c .before .before .before .before .before .before .before .before in
-    let k = r .sweep-for-times in (
-      ap (λ (i : ℕ). network-fits (b .args .bounds) i (b .args .ends .now) (b .args .ranges .now)) (long r) ∙ b .pre .0,
-      (k .kept .1 .1 .1 .1 .1 .0 ∙ b .pre .1 .0 ∙ sym (long r), k .ensures .0, k .ensures .1),
-    )
+believe-requires : tie.Need-believe-requires
+believe-requires c κs =
+    let s = again (c .before .before .before .before .before) in
+    (s .0, s .1 .1)
+
+enum-known-x : tie.Need-enum-known-x
+enum-known-x c = search needs
+
+enum-known-x-2 : tie.Need-enum-known-x-2
+enum-known-x-2 c = search needs
+
+enum-told : tie.Need-enum-told
+enum-told c = search needs
+
+sweep-on-requires-2 : tie.Need-sweep-on-requires-2
+sweep-on-requires-2 c κs =
+    stays (c .before .before .before .before .before) (c .before .before .enum-told .given .1)
 
 same-length-3 : tie.Need-same-length-3
 same-length-3 c = search needs
@@ -86,22 +90,50 @@ same-length-4 c = search needs
 
 returns-2 : tie.Need-returns-2
 returns-2 c =
-    let a = c .before .before .before .before .before .before .before .before .before .before .before .before .before .before .before .before .before .before .args in
-    let q = c .before .before .before .sweep-for-cycle in
-    subst (λ (i : ℕ). Finds (bounds-in (a .bounds) (a .ends .now) (a .ranges .now)) i (q .last .1 .1 .1 .0) (q .last .1 .1 .1 .1 .0) (q .result)) (long (c .before .before .before .before .before .before .before .before .before .before .before .before))
-    (q .ensures)
+    found (c .before .before .before .before) (Found.Settled (c .before .x .given .0 .0)) (c .before .x .given .1)
+
+same-length-5 : tie.Need-same-length-5
+same-length-5 c = search needs
+
+same-length-6 : tie.Need-same-length-6
+same-length-6 c = search needs
+
+returns-3 : tie.Need-returns-3
+returns-3 c =
+    found (c .before .before .before .before) (Found.Looped (c .before .x2 .given .0 .0)) (c .before .x2 .given .1)
+
+same-length-7 : tie.Need-same-length-7
+same-length-7 c = search needs
+
+same-length-8 : tie.Need-same-length-8
+same-length-8 c = search needs
+
+returns-4 : tie.Need-returns-4
+returns-4 c =
+    let b = c .before .before .before .before .before .before .before .before .before in
+    let r = b .before .before .before .before .before .before .sweeps in
+    found-of (b .believe .kept .1 .1 .1 .0 ∙ r .kept .1 .1 .1 .1 .1 .0) refl (c .before .before .before .sweep-on2 .ensures)
 
 pub quick-spec : {M : Type 1} → statement M
 quick-spec =
     tie.close
     (tie.spec
-    sweep-for-times-requires
-    is-certificate-requires
-    round-requires
+    sweeps-requires
+    sweep-on-requires
     same-length
     same-length-2
     returns
-    sweep-for-cycle-requires
+    believe-requires
+    enum-known-x
+    enum-known-x-2
+    enum-told
+    sweep-on-requires-2
     same-length-3
     same-length-4
-    returns-2)
+    returns-2
+    same-length-5
+    same-length-6
+    returns-3
+    same-length-7
+    same-length-8
+    returns-4)

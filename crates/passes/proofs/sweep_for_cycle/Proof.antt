@@ -9,6 +9,7 @@ use Rattle.network.specs.BoundArrays.{bounds-in}
 use Rattle.passes.specs.Solving.{bounds-fit}
 use Rattle.passes.specs.Marks.{finds-cycle, finds-nothing}
 use Rattle.passes.proofs.Networks.{Network, network}
+use Rattle.passes.proofs.Sweeps.{may-sweep}
 use Rattle.passes.proofs.sweep_for_cycle.Statement.{statement}
 use Rattle.passes.proofs.sweep_for_cycle.Tie as tie
 
@@ -23,10 +24,8 @@ long c = c .sweeps .kept .1 .1 .1 .1 .1 .1 .0 ∙ c .before .before .before .bef
 sweeps-requires : tie.Need-sweeps-requires
 sweeps-requires c κs =
     let b = c .before .before .before .before .before in
-    let l = net b .limits in (
-      (l .few-bounds, l .ends-long, l .ranges-long, omega arith),
-      ((net b .all-fit, b .pre .1 .0, b .pre .1 .1), (b .pre .1 .2, l .some-event, l .few-events)),
-    )
+    let a = b .args in
+    may-sweep (a .bounds) (a .ends .now) (a .ranges .now) (a .values .now) (a .parents .now) (b .pre) (a .bounds) (omega arith)
 
 find-cycle-requires : tie.Need-find-cycle-requires
 find-cycle-requires c κs =
