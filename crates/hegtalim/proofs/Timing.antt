@@ -228,7 +228,7 @@ module _ (s : List ℕ) (h : Held) (e : held s ≡ some h) (lent : Lent) (met : 
         let room : 2 * length all ≤ length ends₀ = omega (arith, he, ends-long (h .plan) (h .book) logged ends₀ ranges₀ ends ranges qe qr) in
         let rooms : 2 * length all ≤ length ranges₀ = omega (arith, hr, ranges-long (h .plan) (h .book) logged ends₀ ranges₀ ends ranges qe qr) in
         done (told x) y (by-bounds x y (
-          subst (λ (cs : List Bound). Solves its-own (event-count (h .plan)) cs lent x y) (bounds-there (h .plan) (h .book) logged ends₀ ranges₀ ends ranges qe qr room rooms) w))
+        subst (λ (cs : List Bound). Solves its-own (event-count (h .plan)) cs lent x y) (bounds-there (h .plan) (h .book) logged ends₀ ranges₀ ends ranges qe qr room rooms) w))
 
     -- whatever their numbers are called
     pub solving-is : (a : Solved) (lent′ : Lent) → Solving own m n ends ranges lent a lent′ → Worked (length ends₀) (length ranges₀) s lent (told a) lent′
