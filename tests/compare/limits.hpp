@@ -72,6 +72,20 @@ inline Plan with_late_end(size_t moves, const Cart &first_cart, const Cart &seco
     return plan;
 }
 
+/* carts behind each other around a ring of twice as many cells, each with so many moves: many order bounds from a short table of paths */
+inline Plan around(size_t carts, size_t moves) {
+    Plan plan;
+    for (uint64_t cell = 0; cell < 2 * carts; cell++)
+        plan.roads.push_back(metre(cell, (cell + 1) % (2 * carts)));
+    for (size_t cart = 0; cart < carts; cart++) {
+        plan.carts.push_back({quarter_metre, std::nullopt});
+        plan.paths.emplace_back();
+        for (size_t step = 0; step <= moves; step++)
+            plan.paths.back().push_back((2 * cart + step) % (2 * carts));
+    }
+    return plan;
+}
+
 /* ---- tables by their bytes */
 
 /* a table filled up with records, the last cut, to so many bytes */
@@ -114,6 +128,8 @@ inline void add_counts(std::vector<Known> &known) {
     /* it may go at half its speed, and is late on half its way: each of its events there is late for the sake of the next */
     add("late on half the way", with_late_end(100, {quarter_metre, quarter_metre / 2}, {83334, std::nullopt}), {},
         Outcome{true, 307, 308, 153, {{300, 599996}, {301, 600996}, {306, 1199993}}});
+    /* each of 40 cells is visited by 10 carts, which makes 45 order bounds: more bounds than such a short table lets one expect */
+    add("2,980 bounds from a short table of paths", around(20, 19), {}, Outcome{true, 1162, 2980, 58, {{1161, 76000}}});
 }
 
 inline void add_sizes(std::vector<Known> &known) {
