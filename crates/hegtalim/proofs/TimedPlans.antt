@@ -145,6 +145,11 @@ module _ (e r : ℕ) (s : List ℕ) (l : Lent) where
   large-done x l′ (no-room (inl h)) he hr = absurd (omega arith)
   large-done x l′ (no-room (inr h)) he hr = absurd (omega arith)
 
+  -- what has no room in arrays may have none in others that are too short
+  pub short-worked : (e′ r′ : ℕ) → e′ < 24_576 → (x : Timed) (l′ : Lent) → Worked e r s l x l′ → Worked e′ r′ s l x l′
+  short-worked e′ r′ h x l′ (done y k w) = done y k w
+  short-worked e′ r′ h x l′ (no-room room) = no-room (inl h)
+
   -- an answer that is not `TooShort` is the outcome
   pub small-done : (x : Timed) (l′ : Lent) → Worked e r s l x l′ → (y : Timed) → x ≡ y → ¬ (case y ≡ 1) → Timetabled s l y l′
   small-done x l′ (done z k w) y q h = subst (λ (t : Timed). Timetabled s l t l′) q w

@@ -237,6 +237,19 @@ fn time_small(plan: &[u8], times: &mut [u8], numbers: &mut [u8], directions: &mu
     time_in(plan, &mut ends, &mut ranges, times, numbers, directions)
 }
 
+// The same in arrays half as long as any plan needs.
+fn time_middle(plan: &[u8], times: &mut [u8], numbers: &mut [u8], directions: &mut [u8]) -> Timed
+    requires { ⌜ (233472 ≤ length (now plan)) × (32768 ≤ length (now times)) × (8192 ≤ length (now numbers)) × (4096 ≤ length (now directions)) ⌝ }
+    ensures { λ r. ⌜ Worked 12288 12288 (now (plan .entry))
+        (record { times = now (times .entry); chain-bounds = now (numbers .entry); chain-directions = now (directions .entry) })
+        r
+        (record { times = now (times .exit); chain-bounds = now (numbers .exit); chain-directions = now (directions .exit) }) ⌝ }
+{
+    let mut ends = [0u16; 12288];
+    let mut ranges = [0u64; 12288];
+    time_in(plan, &mut ends, &mut ranges, times, numbers, directions)
+}
+
 // The same in arrays that have room for all bounds of any plan.
 fn time_large(plan: &[u8], times: &mut [u8], numbers: &mut [u8], directions: &mut [u8]) -> Timed
     requires { ⌜ (233472 ≤ length (now plan)) × (32768 ≤ length (now times)) × (8192 ≤ length (now numbers)) × (4096 ≤ length (now directions)) ⌝ }
@@ -250,7 +263,21 @@ fn time_large(plan: &[u8], times: &mut [u8], numbers: &mut [u8], directions: &mu
     time_in(plan, &mut ends, &mut ranges, times, numbers, directions)
 }
 
-// The times of the plan that a slice holds, or a chain. Small arrays are tried first where the table of paths is short.
+// The same for a table of paths of less than 4,096 bytes, by its length.
+fn time_short(plan: &[u8], times: &mut [u8], numbers: &mut [u8], directions: &mut [u8]) -> Timed
+    requires { ⌜ (233472 ≤ length (now plan)) × (32768 ≤ length (now times)) × (8192 ≤ length (now numbers)) × (4096 ≤ length (now directions)) ⌝ }
+    ensures { λ r. ⌜ Worked 12288 12288 (now (plan .entry))
+        (record { times = now (times .entry); chain-bounds = now (numbers .entry); chain-directions = now (directions .entry) })
+        r
+        (record { times = now (times .exit); chain-bounds = now (numbers .exit); chain-directions = now (directions .exit) }) ⌝ }
+{
+    if plan[133_120] != 0 {
+        return time_middle(plan, times, numbers, directions);
+    }
+    time_small(plan, times, numbers, directions)
+}
+
+// The times of the plan that a slice holds, or a chain. Shorter arrays are tried first where the table of paths is short.
 fn time_plan(plan: &[u8], times: &mut [u8], numbers: &mut [u8], directions: &mut [u8]) -> Timed
     requires { ⌜ (233472 ≤ length (now plan)) × (32768 ≤ length (now times)) × (8192 ≤ length (now numbers)) × (4096 ≤ length (now directions)) ⌝ }
     ensures { λ r. ⌜ Timetabled (now (plan .entry))
@@ -258,10 +285,10 @@ fn time_plan(plan: &[u8], times: &mut [u8], numbers: &mut [u8], directions: &mut
         r
         (record { times = now (times .exit); chain-bounds = now (numbers .exit); chain-directions = now (directions .exit) }) ⌝ }
 {
-    if plan[133_120] != 0 {
+    if plan[135_168] != 0 {
         return time_large(plan, times, numbers, directions);
     }
-    let x = time_small(plan, times, numbers, directions);
+    let x = time_short(plan, times, numbers, directions);
     match x {
         Timed::TooShort => time_large(plan, times, numbers, directions),
         Timed::NoPlan => Timed::NoPlan,

@@ -1,4 +1,4 @@
--- `hegtalim::time_plan` meets its contract: what the small arrays have no room for leaves all as it came, and is worked out in the large ones.
+-- `hegtalim::time_plan` meets its contract: what shorter arrays have no room for leaves all as it came, and is worked out in the large ones.
 -- Assumes nothing.
 use native.Mathlib.Omega.{arith}
 use mathlib.Core.Path.{ap}
@@ -25,8 +25,8 @@ same-length-3 c = search needs
 returns : tie.Need-returns
 returns c = search needs
 
-time-small-requires : tie.Need-time-small-requires
-time-small-requires c κs = search needs
+time-short-requires : tie.Need-time-short-requires
+time-short-requires c κs = search needs
 
 enum-told : tie.Need-enum-told
 enum-told c = search needs
@@ -58,7 +58,7 @@ returns-2 c =
     let e = g .before .before .before .before in
     let t = e .before .before .before .before .before .before .before .before in
     let a = t .before .before .before .before .before .before .before .before .before .before .args in
-    then-large 4096 4096 (a .plan .now) (record { times = a .times .now; chain-bounds = a .numbers .now; chain-directions = a .directions .now }) (t .time-small .result) _ (t .time-small .ensures) (ap case (e .enum-told .given .1)) (g .time-large2 .result) _
+    then-large 12288 12288 (a .plan .now) (record { times = a .times .now; chain-bounds = a .numbers .now; chain-directions = a .directions .now }) (t .time-short .result) _ (t .time-short .ensures) (ap case (e .enum-told .given .1)) (g .time-large2 .result) _
     (g .time-large2 .ensures)
 
 same-length-7 : tie.Need-same-length-7
@@ -74,7 +74,7 @@ returns-3 : tie.Need-returns-3
 returns-3 c =
     let t = c .before .before .before .before .before .before .before .before in
     let a = t .before .before .before .before .before .before .before .before .before .before .args in
-    small-done 4096 4096 (a .plan .now) (record { times = a .times .now; chain-bounds = a .numbers .now; chain-directions = a .directions .now }) (t .time-small .result) _ (t .time-small .ensures) _ (c .enum-told2 .given .1) (λ h. omega arith)
+    small-done 12288 12288 (a .plan .now) (record { times = a .times .now; chain-bounds = a .numbers .now; chain-directions = a .directions .now }) (t .time-short .result) _ (t .time-short .ensures) _ (c .enum-told2 .given .1) (λ h. omega arith)
 
 same-length-10 : tie.Need-same-length-10
 same-length-10 c = search needs
@@ -89,7 +89,7 @@ returns-4 : tie.Need-returns-4
 returns-4 c =
     let t = c .before .before .before .before .before .before .before .before .before in
     let a = t .before .before .before .before .before .before .before .before .before .before .args in
-    small-done 4096 4096 (a .plan .now) (record { times = a .times .now; chain-bounds = a .numbers .now; chain-directions = a .directions .now }) (t .time-small .result) _ (t .time-small .ensures) _ (c .before .x .given .1) (λ h. omega arith)
+    small-done 12288 12288 (a .plan .now) (record { times = a .times .now; chain-bounds = a .numbers .now; chain-directions = a .directions .now }) (t .time-short .result) _ (t .time-short .ensures) _ (c .before .x .given .1) (λ h. omega arith)
 
 same-length-13 : tie.Need-same-length-13
 same-length-13 c = search needs
@@ -104,7 +104,7 @@ returns-5 : tie.Need-returns-5
 returns-5 c =
     let t = c .before .before .before .before .before .before .before .before .before in
     let a = t .before .before .before .before .before .before .before .before .before .before .args in
-    small-done 4096 4096 (a .plan .now) (record { times = a .times .now; chain-bounds = a .numbers .now; chain-directions = a .directions .now }) (t .time-small .result) _ (t .time-small .ensures) _ (c .before .x2 .given .1) (λ h. omega arith)
+    small-done 12288 12288 (a .plan .now) (record { times = a .times .now; chain-bounds = a .numbers .now; chain-directions = a .directions .now }) (t .time-short .result) _ (t .time-short .ensures) _ (c .before .x2 .given .1) (λ h. omega arith)
 
 pub time-plan-spec : {M : Type 1} → statement M
 time-plan-spec =
@@ -116,7 +116,7 @@ time-plan-spec =
     same-length-2
     same-length-3
     returns
-    time-small-requires
+    time-short-requires
     enum-told
     time-large-requires-2
     enum-told-2
