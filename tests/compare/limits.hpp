@@ -73,15 +73,15 @@ inline Plan with_late_end(size_t moves, const Cart &first_cart, const Cart &seco
 }
 
 /* carts behind each other around a ring of twice as many cells, each with so many moves: many order bounds from a short table of paths */
-inline Plan around(size_t carts, size_t moves) {
+inline Plan around(size_t carts, size_t moves, uint64_t first) {
     Plan plan;
     for (uint64_t cell = 0; cell < 2 * carts; cell++)
-        plan.roads.push_back(metre(cell, (cell + 1) % (2 * carts)));
+        plan.roads.push_back(metre(first + cell, first + (cell + 1) % (2 * carts)));
     for (size_t cart = 0; cart < carts; cart++) {
         plan.carts.push_back({quarter_metre, std::nullopt});
         plan.paths.emplace_back();
         for (size_t step = 0; step <= moves; step++)
-            plan.paths.back().push_back((2 * cart + step) % (2 * carts));
+            plan.paths.back().push_back(first + (2 * cart + step) % (2 * carts));
     }
     return plan;
 }
@@ -128,8 +128,10 @@ inline void add_counts(std::vector<Known> &known) {
     /* it may go at half its speed, and is late on half its way: each of its events there is late for the sake of the next */
     add("late on half the way", with_late_end(100, {quarter_metre, quarter_metre / 2}, {83334, std::nullopt}), {},
         Outcome{true, 307, 308, 153, {{300, 599996}, {301, 600996}, {306, 1199993}}});
-    /* each of 40 cells is visited by 10 carts, which makes 45 order bounds: more bounds than such a short table lets one expect */
-    add("2,980 bounds from a short table of paths", around(20, 19), {}, Outcome{true, 1162, 2980, 58, {{1161, 76000}}});
+    /* each of 40 cells is visited by 10 carts, which makes 45 order bounds, or by 15, which makes 105: more bounds than tables of paths of 1,100 and of 2,400
+       bytes let one expect */
+    add("2,980 bounds from a short table of paths", around(20, 19, 0), {}, Outcome{true, 1162, 2980, 58, {{1161, 76000}}});
+    add("5,980 bounds from a longer one", around(20, 29, 100), {}, Outcome{true, 1762, 5980, 88, {{1761, 116000}}});
 }
 
 inline void add_sizes(std::vector<Known> &known) {

@@ -224,7 +224,7 @@ fn time_in(
     }
 }
 
-// The same in small arrays, which are cleared in no time; many bounds have no room there.
+// The same in short arrays, which take little time to clear; many bounds have no room there.
 fn time_small(plan: &[u8], times: &mut [u8], numbers: &mut [u8], directions: &mut [u8]) -> Timed
     requires { ⌜ (233472 ≤ length (now plan)) × (32768 ≤ length (now times)) × (8192 ≤ length (now numbers)) × (4096 ≤ length (now directions)) ⌝ }
     ensures { λ r. ⌜ Worked 4096 4096 (now (plan .entry))
