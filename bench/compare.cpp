@@ -24,7 +24,7 @@ static const char *const explanation =
     "whole:   hegtalim_timetable.\n"
     "judging: hegtalim_report(plan, length, 65, 0). No plan has a cart 65, and refusals come in the order 14, 10, 11: the call judges\n"
     "         the whole plan slice as a timetable does, is refused with 11 and changes nothing.\n"
-    "engine:  whole less judging, which is the network built, the times found and written.\n"
+    "engine:  whole less judging in the same repetition, which is the network built, the times found and written.\n"
     "LEMON:   BellmanFord::processNextRound on a StaticDigraph built beforehand, until nothing changes. Its rounds are the passes.\n"
     "Boost:   bellman_ford_shortest_paths on a compressed_sparse_row_graph built beforehand. It gives no pass number.\n"
     "A ratio is the first time over the second, with the name of the faster one behind it.\n";

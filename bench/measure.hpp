@@ -17,6 +17,11 @@ class Side {
     unsigned calls = 1;
     std::vector<double> samples;
 
+    static double middle(std::vector<double> times) {
+        std::sort(times.begin(), times.end());
+        return times[times.size() / 2];
+    }
+
     double timed() const {
         call();
         double from = microseconds();
@@ -33,16 +38,18 @@ class Side {
 
     void repeat() { samples.push_back(timed()); }
 
-    double median() const {
-        std::vector<double> sorted = samples;
-        std::sort(sorted.begin(), sorted.end());
-        return sorted[sorted.size() / 2];
+    double median() const { return middle(samples); }
+
+    /* how much longer it takes than another side, in the same repetition: a machine that changes its speed between two of them changes both sides */
+    double median_over(const Side &other) const {
+        std::vector<double> more;
+        for (size_t i = 0; i < samples.size(); i++)
+            more.push_back(samples[i] - other.samples[i]);
+        return middle(more);
     }
 };
 
 /* medians, in microseconds */
 struct Times {
-    double whole, judging, lemon, boost;
-
-    double engine() const { return whole - judging; }
+    double whole, judging, engine, lemon, boost;
 };

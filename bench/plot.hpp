@@ -17,7 +17,7 @@ struct Curve {
 inline const std::vector<Curve> curves = {
     {"whole call", "#000000", "none", "M-4,0A4,4 0 1 0 4,0A4,4 0 1 0 -4,0Z", [](const Times &t) { return t.whole; }},
     {"judging", "#e69f00", "2 3", "M-4,-4H4V4H-4Z", [](const Times &t) { return t.judging; }},
-    {"engine (whole less judging)", "#0072b2", "7 3", "M0,-5L5,4H-5Z", [](const Times &t) { return t.engine(); }},
+    {"engine (whole less judging)", "#0072b2", "7 3", "M0,-5L5,4H-5Z", [](const Times &t) { return t.engine; }},
     {"LEMON's rounds", "#009e73", "none", "M0,-5L5,0L0,5L-5,0Z", [](const Times &t) { return t.lemon; }},
     {"Boost", "#cc3311", "9 3 2 3", "M0,5L-5,-4H5Z", [](const Times &t) { return t.boost; }},
 };

@@ -42,8 +42,8 @@ inline void print_times(const std::string &title, const std::vector<Row> &rows) 
         {"plan", "events", "bounds", "passes", "whole", "judging", "engine", "LEMON", "Boost", "LEMON/engine", "engine/Boost", "whole/Boost"}};
     for (const Row &row : rows) {
         const Times &t = row.times;
-        all.push_back({row.name, count(row.events), count(row.bounds), count(row.passes), duration(t.whole), duration(t.judging), duration(t.engine()),
-                       duration(t.lemon), duration(t.boost), ratio("LEMON", t.lemon, "engine", t.engine()), ratio("engine", t.engine(), "Boost", t.boost),
+        all.push_back({row.name, count(row.events), count(row.bounds), count(row.passes), duration(t.whole), duration(t.judging), duration(t.engine),
+                       duration(t.lemon), duration(t.boost), ratio("LEMON", t.lemon, "engine", t.engine), ratio("engine", t.engine, "Boost", t.boost),
                        ratio("whole", t.whole, "Boost", t.boost)});
     }
     print_table(title, all);
@@ -60,7 +60,7 @@ inline Cells growth(const Row &from, const Row &to) {
             count_factor(from.passes, to.passes),
             factor(a.whole, b.whole),
             factor(a.judging, b.judging),
-            factor(a.engine(), b.engine()),
+            factor(a.engine, b.engine),
             factor(a.lemon, b.lemon),
             factor(a.boost, b.boost)};
 }

@@ -79,5 +79,8 @@ class Subject {
         checks.that(other_boost == 0, name + ": the times are not Boost's");
     }
 
-    Row row() const { return {name, size, events, bounds, lemon.passes, {whole.median(), judging.median(), lemon_side.median(), boost_side.median()}}; }
+    Row row() const {
+        return {name,   size,         events,
+                bounds, lemon.passes, {whole.median(), judging.median(), whole.median_over(judging), lemon_side.median(), boost_side.median()}};
+    }
 };
