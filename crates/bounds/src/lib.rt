@@ -50,9 +50,10 @@ fn write_starts(firsts: &[u16], carts: usize, k: usize, ends: &mut [u16], ranges
     }
 }
 
-// Puts the finish bounds in two arrays, from the k-th place on. A cart's last event stands before the next cart's first, or the finish.
+// Puts the finish bounds in two arrays, from the k-th place on, behind at most 4,096 others and 90,112 order bounds. A cart's last event stands before
+// the next cart's first, or the finish.
 fn write_finishes(firsts: &[u16], carts: usize, k: usize, ends: &mut [u16], ranges: &mut [u64])
-    requires { ⌜ (carts ≤ 64) × (k ≤ 98304) × (carts < length (now firsts)) ⌝ }
+    requires { ⌜ (carts ≤ 64) × (k ≤ 94208) × (carts < length (now firsts)) ⌝ }
     requires { ⌜ ((i : ℕ) → i < carts → 0 < getD (now firsts) (i + 1) 0) ⌝ }
     ensures { λ _. ⌜ now (ends .exit) ≡ sets (now (ends .entry)) (2 * k)
         (flatMap bound-ends (map (finish-before (getD (now (firsts .entry)) carts 0)) (take carts (drop 1 (now (firsts .entry)))))) ⌝ }

@@ -112,7 +112,7 @@ fn put_later(
     m
 }
 
-// Writes the order bounds among n visits; returns how many there are.
+// Writes the order bounds among n visits; returns how many there are: not more than one from each of 1,408 visits to each of 64 carts.
 fn put_orders(
     numbers: &[u8],
     times: &[u16],

@@ -1,4 +1,5 @@
--- Bounds in two arrays: how the code that writes them hands them on.
+-- Bounds in two arrays: how the code that writes them hands them on. What stands in an array after a writer is said by `sets` (lib.Seq): numbers stored
+-- one behind the other from a place on, of which those behind the array's end are left out (`set` of lib.ListN leaves an empty list as it is).
 -- Assumes nothing.
 use Prim.Native.Nat.{ℕ, zero, suc}
 use mathlib.Core.List.{List, [], _∷_}
