@@ -21,9 +21,9 @@ struct Benchmark {
 static const char *const explanation =
     "Each time is that of one call, the median of %u repetitions in one run. In a repetition all sides are called in turn, each once\n"
     "untimed and then as often as fills 1 ms.\n"
-    "whole:   hegtalim_timetable.\n"
-    "judging: hegtalim_report(plan, length, 65, 0). No plan has a cart 65, and refusals come in the order 14, 10, 11: the call judges\n"
-    "         the whole plan slice as a timetable does, is refused with 11 and changes nothing.\n"
+    "whole:   hegtalim_timetable, right after another.\n"
+    "judging: hegtalim_report(plan, length, 65, 0), right after a timetable. No plan has a cart 65, and refusals come in the order 14,\n"
+    "         10, 11: the call judges the whole plan slice as a timetable does, is refused with 11 and changes nothing.\n"
     "engine:  whole less judging in the same repetition, which is the network built, the times found and written.\n"
     "LEMON:   BellmanFord::processNextRound on a StaticDigraph built beforehand, until nothing changes. Its rounds are the passes.\n"
     "Boost:   bellman_ford_shortest_paths on a compressed_sparse_row_graph built beforehand. It gives no pass number.\n"

@@ -29,7 +29,8 @@ class Subject {
     Graph::Solution lemon{};
     std::vector<int64_t> boost;
 
-    Side whole, judging, lemon_side, boost_side;
+    Parted timetable; /* its part is judging */
+    Side lemon_side, boost_side;
 
     /* in how many repetitions a side came to something else */
     unsigned refused = 0, other_times = 0, other_passes = 0, other_boost = 0, judged_wrongly = 0;
@@ -54,20 +55,22 @@ class Subject {
     Subject(const Measured &plan, const Network &network)
         : name(plan.name), size(plan.size), events(network.events.size()), bounds(network.bounds.size()), slices(plan.tables),
           lemon_graph(events, Book(network).bounds(network)), boost_graph(events, Book(network).bounds(network)),
-          whole([this] { answer = slices.timetable(); }), judging([this] { judged = slices.judge(); }), lemon_side([this] { lemon = lemon_graph.solve(); }),
+          timetable([this] { answer = slices.timetable(); }, [this] { judged = slices.judge(); }), lemon_side([this] { lemon = lemon_graph.solve(); }),
           boost_side([this] { boost = boost_graph.solve(); }) {}
     Subject(const Subject &) = delete;
 
     void calibrate() {
-        for (Side *side : {&whole, &judging, &lemon_side, &boost_side})
-            side->calibrate();
+        timetable.calibrate();
+        lemon_side.calibrate();
+        boost_side.calibrate();
     }
 
     /* all sides in turn; the last answer of each is checked */
     void repeat() {
         slices.spoil_times();
-        for (Side *side : {&whole, &judging, &lemon_side, &boost_side})
-            side->repeat();
+        timetable.repeat();
+        lemon_side.repeat();
+        boost_side.repeat();
         compare();
     }
 
@@ -81,6 +84,6 @@ class Subject {
 
     Row row() const {
         return {name,   size,         events,
-                bounds, lemon.passes, {whole.median(), judging.median(), whole.median_over(judging), lemon_side.median(), boost_side.median()}};
+                bounds, lemon.passes, {timetable.whole_time(), timetable.part_time(), timetable.rest_time(), lemon_side.time(), boost_side.time()}};
     }
 };
