@@ -26,7 +26,7 @@ use Rattle.schedule.specs.Book.{Book}
 use Rattle.schedule.specs.Added.{added-bounds, all-bounds, numbered-bounds}
 use Rattle.schedule.specs.Timetable.{arcs, timetable}
 use Rattle.schedule.specs.Chain.{Direction, Item, Leg, leg, legs, closed-below-0, is-chain}
-use Rattle.schedule.specs.Lent.{Lent, long-enough, times-written, chain-written}
+use Rattle.schedule.specs.Lent.{Lent, long-enough, chain-written}
 use Rattle.schedule.proofs.Logged.{Logged, logged-kept, some-event, bound-ends as ends-below, bound-most}
 use Rattle.schedule.proofs.Numbers.{Leads, added-few, added-number, own-place}
 use Rattle.schedule.proofs.Legs.{legs-cons}

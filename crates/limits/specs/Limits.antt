@@ -6,7 +6,7 @@ use mathlib.Core.List.{List, [], map}
 use mathlib.Core.Option.{none}
 use lib.Dec.{leb}
 use lib.ListN.{length}
-use Rattle.floor.specs.Plan.{Cart, Plan}
+use Rattle.floor.specs.Plan.{Plan}
 use Rattle.tables.specs.Arrays.{paths-in}
 use Rattle.network.specs.Events.{event-count}
 use Rattle.network.specs.Bounds.{bounds}

@@ -9,7 +9,7 @@ use Rattle.floor.specs.Plan.{Plan}
 use Rattle.tables.specs.Arrays.{paths-in}
 use Rattle.network.specs.Events.{Route, routes-of, event-count, finish-event}
 use Rattle.network.specs.Bounds.{Bound, order-bounds}
-use Rattle.limits.specs.Limits.{of-paths, paths-within}
+use Rattle.limits.specs.Limits.{of-paths}
 
 -- the numbers of the carts' first events, and behind them the finish's
 unfoldable pub first-events : Plan → List ℕ

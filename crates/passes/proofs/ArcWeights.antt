@@ -1,15 +1,14 @@
 -- Weights of arcs as the code has them: they fit their type, and so does a value with a weight. Assumes nothing.
-use Prim.Native.Nat.{ℕ, _+_, _-_, _*_, _≤_, _<_}
+use Prim.Native.Nat.{ℕ, _+_, _-_, _*_, _≤_}
 use native.Mathlib.Omega.{arith}
-use mathlib.Core.Path.{_≡_, refl, ap, sym, _∙_, subst}
+use mathlib.Core.Path.{_≡_, ap, sym, _∙_, subst}
 use mathlib.Core.List.{List}
 use lib.IntN.{ℤ, pos, negℤ, _+ℤ_, _-ℤ_, _*ℤ_}
-use lib.ListN.{length, getD}
 use mir.Syntax.{w64}
 use mir.Val.{SFits, toZ, ofZ}
 use mir.ValLaws.{toZ-ofZ}
 use mir.Facts.{toZ-pos}
-use Rattle.laws.proofs.Signed.{signed, Within, up-sum, dn-sum, neg-up, neg-dn, sum, difference, product, mag-within}
+use Rattle.laws.proofs.Signed.{signed, Within, up-sum, dn-sum, neg-up, neg-dn, difference, product, mag-within}
 use Rattle.passes.specs.Values.{value, InRange}
 
 -- a number in the range of weights fits its type

@@ -13,7 +13,7 @@ use Rattle.laws.proofs.Members.{any-default}
 use Rattle.laws.proofs.Signed.{signed}
 use Rattle.network.specs.Bounds.{Bound}
 use Rattle.walks.specs.Walks.{Arc}
-use Rattle.walks.specs.Passes.{Sums, Settled, settled}
+use Rattle.walks.specs.Passes.{Sums, settled}
 use Rattle.walks.proofs.Greatest.{sums-length}
 use Rattle.walks.proofs.Settling.{settled-is}
 use Rattle.walks.proofs.Certificate.{certified-settled}

@@ -5,7 +5,7 @@ use native.Mathlib.Numerals.{add-one}
 use native.Mathlib.Omega.{arith}
 use mathlib.Core.Path.{_≡_, refl, ap, sym, _∙_, subst}
 use mathlib.Core.Logic.{_≢_, _⊎_, inl, inr, ⊎-elim}
-use mathlib.Core.List.{List, [], _∷_, flatMap, List·Memᴰ, List·Memᴰ·head, List·Memᴰ·tail, List·Memᴰ·not-nil, List·Memᴰ·cases-cons, List·Memᴰ·eq-of-singleton}
+use mathlib.Core.List.{List, _∷_, flatMap, List·Memᴰ, List·Memᴰ·head, List·Memᴰ·tail, List·Memᴰ·cases-cons, List·Memᴰ·eq-of-singleton}
 use mathlib.Core.Option.{Option, none, some}
 use lib.IntN.{ℤ, pos, negsuc, negℤ, _+ℤ_, _-ℤ_, _*ℤ_}
 use lib.Signed.{_≤ℤ_, _<ℤ_}
@@ -15,7 +15,7 @@ use Rattle.laws.proofs.Members.{to-flat, of-flat, at-place, place-of}
 use Rattle.network.specs.Bounds.{Bound}
 use Rattle.network.specs.BoundArrays.{bounds-in}
 use Rattle.walks.specs.Walks.{Arc}
-use Rattle.walks.specs.Certificate.{scale, weighted, Tight}
+use Rattle.walks.specs.Certificate.{weighted, Tight}
 use Rattle.schedule.specs.Timetable.{forward, backward, ways}
 use Rattle.passes.specs.Solving.{no-bound}
 use Rattle.passes.specs.Places.{bound-at}

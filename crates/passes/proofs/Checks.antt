@@ -1,5 +1,5 @@
 -- Values in arrays: raised in place they stay in their range; checked, each way out of a check says what it is to say; rounded, they are times. Assumes nothing.
-use Prim.Native.Nat.{ℕ, zero, suc, _+_, _-_, _*_, _/_, _%_, _≤_, _<_}
+use Prim.Native.Nat.{ℕ, zero, suc, _+_, _-_, _/_, _%_, _≤_, _<_}
 use native.Mathlib.Decide.{ℕ-discrete}
 use native.Mathlib.Nat.{eq-or-lt-of-le}
 use native.Mathlib.Numerals.{add-one}
@@ -9,14 +9,14 @@ use mathlib.Core.Logic.{_≢_, _⊎_, inl, inr, ⊎-elim}
 use mathlib.Core.Bool.{Bool, true, false}
 use mathlib.Core.List.{List}
 use lib.Dec.{T}
-use lib.IntN.{ℤ, pos, negsuc, natAbs, _+ℤ_, _*ℤ_}
+use lib.IntN.{ℤ, pos, negsuc, natAbs, _+ℤ_}
 use lib.Signed.{ltZ, nonNeg, _≤ℤ_, _<ℤ_}
 use lib.ListN.{length, getD, set, length-set}
 use lib.Seq.{getD-set-same, getD-set-other}
 use mir.Syntax.{w64}
 use mir.Val.{Fits, SFits, toZ, ofZ}
 use mir.ValLaws.{toZ-ofZ}
-use Rattle.laws.proofs.Signed.{signed, sum, product, Within, mag-within, up-sum, dn-sum, test→ℕ}
+use Rattle.laws.proofs.Signed.{signed, sum, product, Within, up-sum, test→ℕ}
 use Rattle.walks.specs.Certificate.{scale}
 use Rattle.walks.proofs.Greatest.{set-cases}
 use Rattle.passes.specs.Values.{value, InRange, Rounds, Rounded}

@@ -3,7 +3,7 @@ use crate::weights;
 ghost use mathlib.Core.Path.{_≡_};
 ghost use mathlib.Core.Logic.{_≢_, _⊎_};
 ghost use mathlib.Core.Bool.{true};
-ghost use mathlib.Core.List.{List, [], _∷_, flatMap};
+ghost use mathlib.Core.List.{flatMap};
 ghost use Prim.Native.Nat.{ℕ, _+_, _*_, _≤_, _<_};
 ghost use lib.ListN.{length, getD};
 ghost use lib.IntN.{pos, negsuc, natAbs, _+ℤ_};

@@ -1,8 +1,8 @@
 -- A plan's numbers in arrays: how the readers hand them on.
 -- Assumes nothing.
 use Prim.Native.Nat.{ℕ, zero, suc}
-use mathlib.Core.List.{List, [], _∷_, _++_, flatMap}
-use mathlib.Core.Option.{Option, none, some, Option·getD}
+use mathlib.Core.List.{List, [], _∷_, flatMap}
+use mathlib.Core.Option.{none, some, Option·getD}
 use lib.ListN.{drop, getD}
 use Rattle.floor.specs.Plan.{Road, Cart}
 unfoldable pub use Rattle.collisions.specs.Meetings.{paths-in}

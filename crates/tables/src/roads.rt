@@ -8,7 +8,7 @@ use floor::Refusal;
 use floor::Table;
 ghost use mathlib.Core.Path.{_≡_};
 ghost use mathlib.Core.List.{List, [], flatMap};
-ghost use Prim.Native.Nat.{ℕ, _+_, _*_, _≤_, _<_};
+ghost use Prim.Native.Nat.{_+_, _*_, _≤_, _<_};
 ghost use lib.ListN.{length, drop, replicate};
 ghost use lib.Seq.{sets};
 ghost use Rattle.words.specs.Words.{padded};

@@ -1,7 +1,7 @@
 -- The bounds of the plan that a slice holds, written to two arrays: its own, and behind them those that its log adds. Assumes nothing.
 use Prim.Native.Nat.{ℕ, _+_, _*_, _-_, _≤_, _<_, min}
 use native.Mathlib.Omega.{arith}
-use mathlib.Core.Path.{_≡_, refl, ap, ap₂, sym, _∙_, subst}
+use mathlib.Core.Path.{_≡_, ap, ap₂, sym, _∙_, subst}
 use mathlib.Core.Bool.{Bool, true, cond}
 use mathlib.Core.List.{List, _++_, flatMap, Memᴰ·append-right}
 use mathlib.Core.Option.{Option, none, some}

@@ -1,7 +1,7 @@
 -- `limits::within_limits` meets its contract: each test is one of the definition's, by the counts of moves and order bounds. Assumes nothing.
 use Prim.Native.Nat.{_*_, _≤_}
 use native.Mathlib.Omega.{arith}
-use mathlib.Core.Path.{_≡_, _∙_}
+use mathlib.Core.Path.{_∙_}
 use borrow.Author.Needs.{needs}
 use lib.ListN.{length}
 use Rattle.limits.proofs.LimitSteps.{there-says, not-there, many-events, no-steps, orders-asked}

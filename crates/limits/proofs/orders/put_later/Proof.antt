@@ -6,8 +6,8 @@ use mathlib.Core.Path.{_≡_, refl, ap, sym, _∙_}
 use mathlib.Core.Logic.{⊎-elim}
 use mathlib.Core.List.{List}
 use borrow.Author.Needs.{needs}
-use lib.ListN.{length, getD}
-use Rattle.network.specs.Bounds.{Bound, no-earlier}
+use lib.ListN.{getD}
+use Rattle.network.specs.Bounds.{Bound}
 use Rattle.limits.specs.Counts.{counts, stop-at, stops-in, next-after}
 use Rattle.limits.specs.Row.{Entry, later-bounds, entry-at, placed, entry-in, row-in}
 use Rattle.limits.proofs.Links.{walk-begins}
