@@ -26,14 +26,14 @@ pub(crate) fn all_there(cells: &[u32], carts: usize, steps: usize) -> bool
     carts * steps <= cells.len()
 }
 
-// The moves of the path at place `at`.
+// The moves of the path at place `at`, counted in as many bytes as a cell has, so that many cells can be compared at once.
 fn moves_of(cells: &[u32], at: usize, steps: usize) -> usize
-    requires { ⌜ 1 ≤ steps ⌝ }
+    requires { ⌜ (1 ≤ steps) × (steps ≤ 1024) ⌝ }
     requires { ⌜ at + steps ≤ length (now cells) ⌝ }
     ensures { λ r. ⌜ r ≡ moves (take steps (drop at (now (cells .entry)))) ⌝ }
 {
     let mut c = cells[at];
-    let mut n: usize = 0;
+    let mut n: u32 = 0;
     let mut s: usize = 1;
     while s < steps {
         let d = cells[at + s];
@@ -43,7 +43,7 @@ fn moves_of(cells: &[u32], at: usize, steps: usize) -> usize
         c = d;
         s += 1;
     }
-    n
+    n as usize
 }
 
 // The moves of all paths.

@@ -59,6 +59,9 @@ loop-again c =
     (λ w. (omega arith, omega arith, omega (arith, moves-wait (a .cells .now) (a .at) (a .steps) h (l .loop .c) (l .loop .s) t (w .0 .left))))
     (c .if1 .came)
 
+cast-result : tie.Need-cast-result Inv-loop μ-loop
+cast-result c = search needs
+
 returns : tie.Need-returns Inv-loop μ-loop
 returns c =
     let a = c .before .before .before .args in
@@ -81,4 +84,5 @@ moves-of-spec =
     add-s
     loop-less
     loop-again
+    cast-result
     returns)
