@@ -1,20 +1,29 @@
 -- Arrays that hold a network within the limits: what the test says, and how it is made bound by bound. Assumes nothing.
-use Prim.Native.Nat.{ℕ, suc, _+_, _*_, _≤_, _<_}
+use Prim.Native.Nat.{ℕ, zero, suc, _+_, _*_, _≤_, _<_}
 use native.Mathlib.Numerals.{add-one}
 use native.Mathlib.Omega.{arith}
-use mathlib.Core.Path.{_≡_, ap, sym, _∙_, subst}
+use mathlib.Core.Path.{_≡_, refl, ap, sym, _∙_, subst}
+use mathlib.Core.Logic.{⊎-elim}
 use mathlib.Core.Bool.{Bool, true, false, _&&_}
 use mathlib.Core.List.{List, _∷_}
 use lib.Dec.{T, leb, leb→le, le→leb}
-use lib.ListN.{length, drop, drop-of-length-le}
+use lib.ListN.{length, getD, drop, drop-of-length-le}
 use lib.Seq.{drop-cons}
 use mir.Facts.{and-yes, yes-and}
-use Rattle.laws.proofs.Tests.{passes, fails}
+use Rattle.laws.proofs.Tests.{passes, fails, below-or-not}
 use Rattle.network.specs.Bounds.{Bound}
 use Rattle.network.specs.BoundArrays.{bounds-in}
 use Rattle.passes.specs.Solving.{bounds-fit, network-fits}
 use Rattle.passes.specs.Places.{bound-at}
-use Rattle.passes.proofs.Fitting.{bounds-length, bound-is, Fitting, fitting, fitting-passes, place-fits}
+use Rattle.passes.proofs.Fitting.{bounds-length, hi-number-of, bound-is, Fitting, fitting, fitting-passes, place-fits}
+
+-- what holds of each number below i, and of i, holds of each below the next
+pub one-more : (P : ℕ → Type 0) (i : ℕ) → ((j : ℕ) → j < i → P j) → P i → (j : ℕ) → j < i + 1 → P j
+one-more P i all at j h =
+    ⊎-elim
+    (λ (k : j < i). all j k)
+    (λ (k : i ≤ j). let e : i ≡ j = omega arith in subst P e at)
+    (below-or-not j i)
 
 -- the limits
 pub record Limits (m n : ℕ) (ends ranges : List ℕ) : Type 0 where
@@ -63,46 +72,68 @@ module _ (m n : ℕ) (ends ranges : List ℕ) where
         all-fit = passes (bounds-fit n (bounds-in m ends ranges)) (a .1);
       }
 
-  -- and what says the test
-  pub network-passes : Network m n ends ranges → true ≡ network-fits m n ends ranges
+  -- within the limits the bounds decide
+  pub network-is : Limits m n ends ranges → bounds-fit n (bounds-in m ends ranges) ≡ network-fits m n ends ranges
   unfolding network-fits
-  network-passes w =
-      let l : Limits m n ends ranges = w .limits in
+  network-is l =
       let a : T tests₂ = yes-and (leb m 12_288) (leb (2 * m) (length ends)) (le→leb m 12_288 (l .few-bounds)) (le→leb (2 * m) (length ends) (l .ends-long)) in
       let b : T tests₃ = yes-and tests₂ (leb (2 * m) (length ranges)) a (le→leb (2 * m) (length ranges) (l .ranges-long)) in
       let c : T tests₄ = yes-and tests₃ (leb 1 n) b (le→leb 1 n (l .some-event)) in
       let d : T tests₅ = yes-and tests₄ (leb n 4096) c (le→leb n 4096 (l .few-events)) in
-      sym (passes (tests₅ && bounds-fit n (bounds-in m ends ranges)) (yes-and tests₅ (bounds-fit n (bounds-in m ends ranges)) d (subst T (sym (w .all-fit)) tt)))
+      ap (λ (t : Bool). t && bounds-fit n (bounds-in m ends ranges)) (sym (passes tests₅ d))
 
   -- where one thing is otherwise, it fails
   pub network-fails : (Network m n ends ranges → ⊥) → false ≡ network-fits m n ends ranges
   network-fails h = sym (fails (network-fits m n ends ranges) (λ t. h (network (passes (network-fits m n ends ranges) t))))
 
-  -- as where a bound does not fit
-  pub bound-fails : (i : ℕ) → i < m → (Fitting n (bound-at i ends ranges) → ⊥) → false ≡ network-fits m n ends ranges
-  bound-fails i h f = network-fails (λ w. f (fitting n (bound-at i ends ranges) (place-fits n m ends ranges i h (w .all-fit))))
+-- ---- bounds that fit, one by one
 
-  -- what the loop keeps: the limits, and that the bounds from i on decide
-  pub record Checked (i : ℕ) : Type 0 where
-    pub limits : Limits m n ends ranges
-    pub left : bounds-fit n (bounds-in m ends ranges) ≡ bounds-fit n (drop i (bounds-in m ends ranges))
+module _ (m n : ℕ) (ends ranges : List ℕ) where
+  abbrev bs : List Bound
+  bs = bounds-in m ends ranges
+
+  -- one that does not
+  pub bound-fails : (i : ℕ) → i < m → (Fitting n (bound-at i ends ranges) → ⊥) → false ≡ bounds-fit n bs
+  bound-fails i h f =
+      sym (fails (bounds-fit n bs) (λ t. f (fitting n (bound-at i ends ranges) (place-fits n m ends ranges i h (passes (bounds-fit n bs) t)))))
+
+  -- what the loop keeps: the bounds from i on decide
+  abbrev pub Left : ℕ → Type 0
+  Left i = bounds-fit n bs ≡ bounds-fit n (drop i bs)
 
   -- a bound that fits leaves those after it
-  pub next-checked : (i : ℕ) → i < m → Fitting n (bound-at i ends ranges) → Checked i → Checked (i + 1)
+  pub next-left : (i : ℕ) → i < m → Fitting n (bound-at i ends ranges) → Left i → Left (i + 1)
   unfolding bounds-fit
-  next-checked i h f c =
-      let bs : List Bound = bounds-in m ends ranges in
+  next-left i h f c =
       let b : Bound = bound-at i ends ranges in
       let l : i < length bs = omega (arith, bounds-length m ends ranges) in
       let e : bounds-fit n bs ≡ bounds-fit n (drop (suc i) bs) =
-      c .left ∙ ap (bounds-fit n) (drop-cons bs i b l ∙ ap (λ (x : Bound). x ∷ drop (suc i) bs) (bound-is m ends ranges i b h))
+      c ∙ ap (bounds-fit n) (drop-cons bs i b l ∙ ap (λ (x : Bound). x ∷ drop (suc i) bs) (bound-is m ends ranges i b h))
       ∙ ap (λ (x : Bool). x && bounds-fit n (drop (suc i) bs)) (fitting-passes n b f)
       in
-      record { limits = c .limits; left = rw (add-one i) e }
+      rw (add-one i) e
 
   -- after the last all fit
-  pub all-checked : (i : ℕ) → m ≤ i → Checked i → true ≡ network-fits m n ends ranges
+  pub none-left : (i : ℕ) → m ≤ i → Left i → true ≡ bounds-fit n bs
   unfolding bounds-fit
-  all-checked i h c =
-      let l : length (bounds-in m ends ranges) ≤ i = omega (arith, bounds-length m ends ranges) in
-      network-passes (record { limits = c .limits; all-fit = c .left ∙ ap (bounds-fit n) (drop-of-length-le (bounds-in m ends ranges) l) })
+  none-left i h c =
+      let l : length bs ≤ i = omega (arith, bounds-length m ends ranges) in
+      sym (c ∙ ap (bounds-fit n) (drop-of-length-le bs l))
+
+  -- where each fits
+  pub all-fit : ((i : ℕ) → i < m → Fitting n (bound-at i ends ranges)) → bounds-fit n bs ≡ true
+  all-fit f = from m 0 (omega arith) refl
+    where
+      from : (k i : ℕ) → k + i ≡ m → Left i → bounds-fit n bs ≡ true
+      from zero i e l = sym (none-left i (omega arith) l)
+      from (suc k) i e l = from k (i + 1) (omega arith) (next-left i (omega arith) (f i (omega arith)) l)
+
+  -- as where no event is greater than one that is there, and no number as great as 2^39
+  pub small-fit : (g : ℕ) → ((i : ℕ) → i < 2 * m → getD ends i 0 ≤ g) → g < n → ((i : ℕ) → i < 2 * m → getD ranges i 0 < 549_755_813_888) → bounds-fit n bs ≡ true
+  small-fit g e k r =
+      all-fit (λ i h. record {
+        from-in = omega (arith, k, e (2 * i) (omega arith));
+        to-in = omega (arith, k, e (2 * i + 1) (omega arith));
+        lo-fits = omega (arith, r (2 * i) (omega arith));
+        hi-fits = omega (arith, r (2 * i + 1) (omega arith), hi-number-of (getD ranges (2 * i + 1) 0));
+      })

@@ -1,6 +1,7 @@
 // Times of a network of bounds, by passes over its arcs, or a chain. The bounds are in two arrays: the events that each goes from and
 // to, and its lo and one more than its hi, 0 where hi is none. What is answered and written is defined in specs/.
 mod certificate;
+mod fits;
 mod links;
 mod looping;
 mod passing;
@@ -65,23 +66,10 @@ fn is_network(ends: &[u16], ranges: &[u64], bounds: usize, events: usize) -> boo
     if 4096 < events {
         return false;
     }
-    let mut i = 0;
-    while i < bounds {
-        if events <= ends[2 * i] as usize {
-            return false;
-        }
-        if events <= ends[2 * i + 1] as usize {
-            return false;
-        }
-        if 1_000_000_000_000 < ranges[2 * i] {
-            return false;
-        }
-        if 1_000_000_000_001 < ranges[2 * i + 1] {
-            return false;
-        }
-        i += 1;
+    if fits::are_small(ends, ranges, bounds, events) {
+        return true;
     }
-    true
+    fits::each_fits(ends, ranges, bounds, events)
 }
 
 // The time of a sum: 0 for one that is none or below 0.
