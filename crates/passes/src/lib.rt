@@ -18,7 +18,7 @@ ghost use Rattle.words.specs.Words.{words, written};
 ghost use Rattle.walks.specs.Passes.{at-start};
 ghost use Rattle.schedule.specs.Timetable.{time};
 ghost use Rattle.passes.specs.Solving.{network-fits, Solves, Solving};
-ghost use Rattle.passes.specs.Marks.{sum-at, sums-in, Coded, Finds};
+ghost use Rattle.passes.specs.Marks.{sum-at, sums-in, Coded, CycleFound, Finds};
 ghost use Rattle.passes.specs.Values.{InRange};
 
 // What is found: times after so many passes, or a closed chain of bounds of this length and cost.
@@ -216,7 +216,39 @@ fn least(a: usize, b: usize) -> usize
     b
 }
 
-// Sweeps for a cycle, over all bounds, and looks for one behind an event that the last of them may have raised.
+// Sweeps over the first `count` of the bounds until one finds each of them allowed, 1,024 at most. After every sixteen a cycle is looked for behind an
+// event that the last may have raised; returns an event on one, or the number of events where none was found.
+fn sweep_until(
+    ends: &[u16],
+    ranges: &[u64],
+    bounds: usize,
+    count: usize,
+    values: &mut [i64],
+    parents: &mut [u16],
+) -> usize
+    requires { ⌜ network-fits bounds (length (now values)) (now ends) (now ranges) ≡ true ⌝ }
+    requires { ⌜ (length (now parents) ≡ length (now values)) × InRange (now values) × Coded (bounds-in bounds (now ends) (now ranges)) (now parents) ⌝ }
+    requires { ⌜ count ≤ bounds ⌝ }
+    ensures cycle { λ r. ⌜ (r < length (now (parents .exit)) → CycleFound (bounds-in bounds (now (ends .entry)) (now (ranges .entry))) (now (parents .exit)) r) ⌝ }
+    ensures range { λ _. ⌜ InRange (now (values .exit)) ⌝ }
+    ensures coded { λ _. ⌜ Coded (bounds-in bounds (now (ends .entry)) (now (ranges .entry))) (now (parents .exit)) ⌝ }
+{
+    let mut k: usize = 0;
+    while k < 64 {
+        let event = sweeping::sweeps(ends, ranges, bounds, count, 16, values, parents);
+        if parents.len() <= event {
+            return event;
+        }
+        let at = looping::find_cycle(ends, ranges, bounds, parents, event);
+        if at < parents.len() {
+            return at;
+        }
+        k += 1;
+    }
+    parents.len()
+}
+
+// Sweeps for a cycle, over all bounds.
 fn sweep_for_cycle(
     ends: &[u16],
     ranges: &[u64],
@@ -228,8 +260,7 @@ fn sweep_for_cycle(
     requires { ⌜ (length (now parents) ≡ length (now values)) × InRange (now values) × Coded (bounds-in bounds (now ends) (now ranges)) (now parents) ⌝ }
     ensures { λ r. ⌜ Finds (bounds-in bounds (now (ends .entry)) (now (ranges .entry))) (length (now (values .entry))) (now (values .exit)) (now (parents .exit)) r ⌝ }
 {
-    let event = sweeping::sweeps(ends, ranges, bounds, bounds, 32, values, parents);
-    let at = looping::find_cycle(ends, ranges, bounds, parents, event);
+    let at = sweep_until(ends, ranges, bounds, bounds, values, parents);
     if at < parents.len() {
         return Found::Looped(at);
     }
@@ -262,7 +293,10 @@ fn sweep_on(
     ensures { λ r. ⌜ Finds (bounds-in bounds (now (ends .entry)) (now (ranges .entry))) (length (now (values .entry))) (now (values .exit)) (now (parents .exit)) r ⌝ }
 {
     let count = least(own, bounds);
-    sweeping::sweeps(ends, ranges, bounds, count, 64, values, parents);
+    let event = sweep_until(ends, ranges, bounds, count, values, parents);
+    if event < parents.len() {
+        return Found::Looped(event);
+    }
     let x = believe(ends, ranges, bounds, values);
     match x {
         Found::Settled(k) => Found::Settled(k),

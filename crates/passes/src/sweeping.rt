@@ -135,8 +135,8 @@ fn sweep(
     last
 }
 
-// Sweeps over the first `count` of the bounds until one finds each of them allowed, `most` at most; returns an event that the last of them may
-// have raised.
+// Sweeps over the first `count` of the bounds, `most` at most; returns the number of events where one finds each of them allowed, or an event that the
+// last of them may have raised.
 pub(crate) fn sweeps(
     ends: &[u16],
     ranges: &[u64],
@@ -149,7 +149,7 @@ pub(crate) fn sweeps(
     requires { ⌜ (bounds ≤ 12288) × (2 * bounds ≤ length (now ends)) × (2 * bounds ≤ length (now ranges)) × (count ≤ bounds) ⌝ }
     requires { ⌜ (bounds-fit (length (now values)) (bounds-in bounds (now ends) (now ranges)) ≡ true) × (length (now parents) ≡ length (now values)) × InRange (now values) ⌝ }
     requires { ⌜ Coded (bounds-in bounds (now ends) (now ranges)) (now parents) × (1 ≤ length (now values)) × (length (now values) ≤ 4096) ⌝ }
-    ensures event { λ r. ⌜ r < length (now (values .entry)) ⌝ }
+    ensures event { λ r. ⌜ r ≤ length (now (values .entry)) ⌝ }
     ensures range { λ _. ⌜ InRange (now (values .exit)) ⌝ }
     ensures coded { λ _. ⌜ Coded (bounds-in bounds (now (ends .entry)) (now (ranges .entry))) (now (parents .exit)) ⌝ }
 {
@@ -158,7 +158,7 @@ pub(crate) fn sweeps(
     while k < most {
         let last = sweep(ends, ranges, bounds, count, values, parents);
         if last == count {
-            return event;
+            return values.len();
         }
         event = ends[2 * last + 1] as usize;
         k += 1;

@@ -67,8 +67,7 @@ same-length-2 c = left (c .before .before .before .before) .parents-long ∙ sym
 
 returns : tie.Need-returns Inv-loop μ-loop
 returns c =
-    let l = c .before .before .before .before .before .before .before .before .loop in
-    (l .inv .1, (left (c .before .before .before .before) .range, left (c .before .before .before .before) .coded))
+    (omega (arith, left (c .before .before .before .before) .long), (left (c .before .before .before .before) .range, left (c .before .before .before .before) .coded))
 
 mul-event : tie.Need-mul-event Inv-loop μ-loop
 mul-event c = omega (arith, there c, c .before .before .before .before .before .before .before .before .before .before .before .before .pre .0 .0)
@@ -111,7 +110,7 @@ same-length-4 c = c .before .loop .inv .0 .parents-long ∙ sym (c .before .befo
 returns-2 : tie.Need-returns-2 Inv-loop μ-loop
 returns-2 c =
     let l = c .before .loop in
-    (l .inv .1, (l .inv .0 .range, l .inv .0 .coded))
+    (omega (arith, l .inv .1), (l .inv .0 .range, l .inv .0 .coded))
 
 pub sweeps-spec : {M : Type 1} → statement M
 sweeps-spec =
