@@ -133,6 +133,25 @@ static inline void follow(struct plan *p, unsigned n, unsigned moves, const char
     add_paths(&p->paths, &way);
 }
 
+/* A cart with `moves` moves along a row of cells, and one that stands in the last of them and leaves late, by a long margin. Their records of the carts
+   table. Where the first can't stand, it is late event by event, back along its row, and each of these takes a sweep: on a long way the passes are made. */
+static inline void late_end(struct plan *p, unsigned moves, const char *first, const char *second) {
+    static struct steps way;
+    begin_plan(p);
+    for (unsigned i = 0; i < moves; i++)
+        add_road(&p->roads, i, i + 1, 1000000, 250000);
+    add_road(&p->roads, moves, moves + 1, 100000000, 49999999);
+    add(&p->carts, first);
+    add(&p->carts, second);
+    way.carts = 2;
+    way.steps = moves + 1;
+    for (unsigned s = 0; s <= moves; s++) {
+        way.cell[0][s] = s;
+        way.cell[1][s] = s < moves ? moves : moves + 1;
+    }
+    add_paths(&p->paths, &way);
+}
+
 /* Carts that take turns in one cell. Cell 0 has a road to the home of each cart, cells 1 to n; round by round, each cart in turn drives to cell 0 and
    home again, one step each, and when all is done cart 1 makes `more` moves between its home and cell 1000.
    Bounds: 2 for each cart, 3 for each of the 2 × rounds × n + more moves, and order bounds from each visit to cell 0 to each other cart that comes

@@ -42,6 +42,12 @@ int main(void) {
     plan_at_limits(&p);
     put_tables(held, sizeof held, &p);
     measure("64 carts at the limits, no times", 13);
+    late_end(&p, 1000, "250000,125000\r\n", "8334,\r\n");
+    put_tables(held, sizeof held, &p);
+    measure("times by the passes", 0);
+    late_end(&p, 1020, "250000,250000\r\n", "1000,\r\n");
+    put_tables(held, sizeof held, &p);
+    measure("a chain by the passes", 13);
     held[LOG_CARTS] = 65;
     measure("no plan", 10);
     printf("%u passed, %u failed\n", passed, failed);
