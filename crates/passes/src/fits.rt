@@ -1,5 +1,5 @@
-// Whether the bounds in two arrays fit: each between events that are there, and none too large. Most networks are seen to by two sums over all of their
-// numbers; where these leave it open, bound after bound is looked at.
+// Whether the bounds in two arrays fit: each between events that are there, and none too large. For most networks it is enough to go over all numbers
+// twice, many at once; where that leaves it open, bound after bound is looked at.
 ghost use mathlib.Core.Path.{_≡_};
 ghost use mathlib.Core.Bool.{true};
 ghost use Prim.Native.Nat.{ℕ, _*_, _≤_, _<_};
