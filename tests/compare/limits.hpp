@@ -125,12 +125,14 @@ inline void add_counts(std::vector<Known> &known) {
     add("8,193 bounds", with_bounds(8193), {4, paths_table, 0});
     /* the cart must go on at its one speed: the only chain runs along the whole route */
     add("a chain of over 3,000 items", with_late_end(1020, {quarter_metre, quarter_metre}, {least_speed, std::nullopt}), {}, Outcome{false});
-    /* it may go at half its speed, and is late on half its way: each of its events there is late for the sake of the next. On the longer way these are more
-       than sweeps are made for */
+    /* it may go at half its speed, and is late on half its way: each of its events there is late for the sake of the next. On a long way these are more
+       than the plan's own bounds are swept for, and where it is late on nearly all of it, more than sweeps are made for */
     add("late on half the way", with_late_end(100, {quarter_metre, quarter_metre / 2}, {83334, std::nullopt}), {},
         Outcome{true, 307, 308, 153, {{300, 599996}, {301, 600996}, {306, 1199993}}});
     add("late on half of a long way", with_late_end(1000, {quarter_metre, quarter_metre / 2}, {8334, std::nullopt}), {},
         Outcome{true, 3007, 3008, 1503, {{3000, 5999520}, {3001, 6000520}, {3006, 11999041}}});
+    add("late on nearly all of a long way", with_late_end(1020, {quarter_metre, quarter_metre / 2}, {6251, std::nullopt}), {},
+        Outcome{true, 3067, 3068, 2942, {{3060, 7998721}, {3061, 7999721}, {3066, 15997443}}});
     /* each of 40 cells is visited by 10 carts, which makes 45 order bounds, or by 15, which makes 105: more bounds than tables of paths of 1,100 and of 2,400
        bytes let one expect */
     add("2,980 bounds from a short table of paths", around(20, 19, 0), {}, Outcome{true, 1162, 2980, 58, {{1161, 76000}}});

@@ -42,7 +42,7 @@ int main(void) {
     plan_at_limits(&p);
     put_tables(held, sizeof held, &p);
     measure("64 carts at the limits, no times", 13);
-    late_end(&p, 1000, "250000,125000\r\n", "8334,\r\n");
+    late_end(&p, 1020, "250000,125000\r\n", "6251,\r\n");
     put_tables(held, sizeof held, &p);
     measure("times by the passes", 0);
     late_end(&p, 1020, "250000,250000\r\n", "1000,\r\n");

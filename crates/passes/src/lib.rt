@@ -248,25 +248,6 @@ fn sweep_until(
     parents.len()
 }
 
-// Sweeps for a cycle, over all bounds.
-fn sweep_for_cycle(
-    ends: &[u16],
-    ranges: &[u64],
-    bounds: usize,
-    values: &mut [i64],
-    parents: &mut [u16],
-) -> Found
-    requires { ⌜ network-fits bounds (length (now values)) (now ends) (now ranges) ≡ true ⌝ }
-    requires { ⌜ (length (now parents) ≡ length (now values)) × InRange (now values) × Coded (bounds-in bounds (now ends) (now ranges)) (now parents) ⌝ }
-    ensures { λ r. ⌜ Finds (bounds-in bounds (now (ends .entry)) (now (ranges .entry))) (length (now (values .entry))) (now (values .exit)) (now (parents .exit)) r ⌝ }
-{
-    let at = sweep_until(ends, ranges, bounds, bounds, values, parents);
-    if at < parents.len() {
-        return Found::Looped(at);
-    }
-    Found::Nothing
-}
-
 // What is believed of values: times where they are a certificate, whatever the parents are; else nothing, and they stay as they are.
 fn believe(ends: &[u16], ranges: &[u64], bounds: usize, values: &mut [i64]) -> Found
     requires { ⌜ (network-fits bounds (length (now values)) (now ends) (now ranges) ≡ true) × InRange (now values) ⌝ }
@@ -279,7 +260,30 @@ fn believe(ends: &[u16], ranges: &[u64], bounds: usize, values: &mut [i64]) -> F
     Found::Nothing
 }
 
-// Sweeps over the plan's own bounds, since what a log adds leads from the start alone, and what comes of them; else a cycle.
+// Sweeps over the first `count` of the bounds, and what comes of them: a cycle, or what is believed of the values that they leave.
+fn sweep_first(
+    ends: &[u16],
+    ranges: &[u64],
+    bounds: usize,
+    count: usize,
+    values: &mut [i64],
+    parents: &mut [u16],
+) -> Found
+    requires { ⌜ network-fits bounds (length (now values)) (now ends) (now ranges) ≡ true ⌝ }
+    requires { ⌜ (length (now parents) ≡ length (now values)) × InRange (now values) × Coded (bounds-in bounds (now ends) (now ranges)) (now parents) ⌝ }
+    requires { ⌜ count ≤ bounds ⌝ }
+    ensures finds { λ r. ⌜ Finds (bounds-in bounds (now (ends .entry)) (now (ranges .entry))) (length (now (values .entry))) (now (values .exit)) (now (parents .exit)) r ⌝ }
+    ensures range { λ r. ⌜ (r ≡ Found.Nothing → InRange (now (values .exit))) ⌝ }
+    ensures coded { λ _. ⌜ Coded (bounds-in bounds (now (ends .entry)) (now (ranges .entry))) (now (parents .exit)) ⌝ }
+{
+    let at = sweep_until(ends, ranges, bounds, count, values, parents);
+    if at < parents.len() {
+        return Found::Looped(at);
+    }
+    believe(ends, ranges, bounds, values)
+}
+
+// Sweeps over the plan's own bounds, since what a log adds leads from the start alone, and what comes of them; else over all.
 fn sweep_on(
     ends: &[u16],
     ranges: &[u64],
@@ -293,15 +297,11 @@ fn sweep_on(
     ensures { λ r. ⌜ Finds (bounds-in bounds (now (ends .entry)) (now (ranges .entry))) (length (now (values .entry))) (now (values .exit)) (now (parents .exit)) r ⌝ }
 {
     let count = least(own, bounds);
-    let event = sweep_until(ends, ranges, bounds, count, values, parents);
-    if event < parents.len() {
-        return Found::Looped(event);
-    }
-    let x = believe(ends, ranges, bounds, values);
+    let x = sweep_first(ends, ranges, bounds, count, values, parents);
     match x {
         Found::Settled(k) => Found::Settled(k),
         Found::Looped(at) => Found::Looped(at),
-        Found::Nothing => sweep_for_cycle(ends, ranges, bounds, values, parents),
+        Found::Nothing => sweep_first(ends, ranges, bounds, bounds, values, parents),
     }
 }
 

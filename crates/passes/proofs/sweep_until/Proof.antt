@@ -1,13 +1,12 @@
 -- `passes::sweep_until` meets its contract: sweeps keep what they keep, and a cycle that is found is one.
 -- Assumes nothing.
-use Prim.Native.Nat.{ℕ, _-_, _<_}
+use Prim.Native.Nat.{ℕ, _-_}
 use native.Mathlib.Omega.{arith}
-use mathlib.Core.Path.{_≡_, refl, ap, sym, _∙_}
+use mathlib.Core.Path.{refl, ap, sym, _∙_}
 use lib.ListN.{length}
-use borrow.Author.Needs.{needs}
 use Rattle.network.specs.BoundArrays.{bounds-in}
 use Rattle.passes.specs.Solving.{bounds-fit}
-use Rattle.passes.proofs.Networks.{Network, network}
+use Rattle.passes.proofs.Networks.{network}
 use Rattle.passes.proofs.Sweeps.{Kept, may-sweep, swept}
 use Rattle.passes.proofs.sweep_until.Statement.{statement}
 use Rattle.passes.proofs.sweep_until.Tie as tie

@@ -1,5 +1,5 @@
 -- `passes::fits::high_parts` meets its contract: where nothing was added, none of those passed is large; and what was added is small for each. Assumes nothing.
-use Prim.Native.Nat.{ℕ, _+_, _-_, _*_, _≤_, _<_}
+use Prim.Native.Nat.{ℕ, _-_, _*_, _≤_, _<_}
 use native.Mathlib.Omega.{arith}
 use mathlib.Core.Path.{_≡_}
 use lib.ListN.{getD}
