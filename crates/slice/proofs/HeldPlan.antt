@@ -30,7 +30,7 @@ use Rattle.book.specs.Log.{entries, log-book, checked}
 use Rattle.book.proofs.ByPaths.{some-step, next-by-paths, added-by-paths, log-book-is}
 use Rattle.slice.specs.declared.Holding.{Holding}
 use Rattle.slice.specs.PlanSlice.{plan-need, until-zero, tables-in, log-in, Held, nothing-else, held-by, held}
-use Rattle.slice.specs.Holding.{holding, arrays-held, Outcome, read-slice, plan-into}
+use Rattle.slice.specs.Holding.{holding, arrays-held, Outcome, where-room, read-slice, plan-into}
 use Rattle.slice.specs.HeldPlan.{log-of, Holds}
 use Rattle.slice.proofs.Slice.{held-says}
 use Rattle.slice.proofs.Laid.{text-front, part-short, entries-count}
@@ -167,7 +167,7 @@ blank = record { roads = replicate 4096 0; carts = replicate 128 0; cells = repl
 module _ (s : List ℕ) (long : plan-need ≤ length s) where
   -- the slice is long enough, and so are the arrays
   into-is : plan-into s (replicate 4096 0) (replicate 128 0) (replicate 8192 0) ≡ record { answer = holding (held s); arrays = arrays-held blank (held s) }
-  unfolding plan-into read-slice room
+  unfolding plan-into read-slice where-room room
   into-is =
       ap (λ (b : Bool). elim b as (λ _. Outcome) [ false ↦ record { answer = Holding.TooShort; arrays = blank } | true ↦ record { answer = holding (held s); arrays = arrays-held blank (held s) } ])
       (let fits : (leb plan-need (length s) && room blank) ≡ true = ap (λ (b : Bool). b && room blank) (le-leb plan-need (length s) long) in fits)
@@ -221,7 +221,7 @@ module _ (s : List ℕ) (long : plan-need ≤ length s) where
 module _ (s : List ℕ) (x : Holding) (is : x ≡ plan-into s (replicate 4096 0) (replicate 128 0) (replicate 8192 0) .answer) where
   -- a short one is said to be short
   told-short : length s < plan-need → x ≡ Holding.TooShort
-  unfolding plan-into read-slice
+  unfolding plan-into read-slice where-room
   told-short h =
       is ∙ ap (λ (b : Bool). elim (b && room blank) as (λ _. Outcome) [
         | false ↦ record { answer = Holding.TooShort; arrays = blank }

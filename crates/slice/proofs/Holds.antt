@@ -6,9 +6,10 @@ use mathlib.Core.Logic.{_⊎_}
 use mathlib.Core.Bool.{Bool, true, false, true≢false, not, _&&_, cond, and-false}
 use mathlib.Core.List.{List}
 use mathlib.Core.Option.{Option, none, some, Option·none-ne-some, Option·some-injective}
-use lib.Dec.{leb}
+use lib.Dec.{T, leb, leb→le}
 use lib.ListN.{length, take, drop, replicate}
 use lib.Seq.{take-take}
+use mir.Facts.{and-yes}
 use borrow.Author.Tests.{not-true, not-false, le-leb, lt-leb}
 use Rattle.words.specs.Words.{padded}
 use Rattle.floor.specs.declared.Refusal.{Refusal}
@@ -30,7 +31,7 @@ use Rattle.book.proofs.ByPaths.{log-book-is}
 use Rattle.slice.specs.declared.Holding.{Holding}
 use Rattle.slice.specs.declared.Layout.{Layout}
 use Rattle.slice.specs.PlanSlice.{until-zero, tables-in, log-in, Held, nothing-else, held-by, held}
-use Rattle.slice.specs.Holding.{layout, holding, arrays-held, Outcome, read-slice, plan-into}
+use Rattle.slice.specs.Holding.{layout, holding, arrays-held, Outcome, where-room, read-slice, plan-into, plan-of, laid, laying, arrays-laid, laid-into}
 use Rattle.slice.proofs.Slice.{held-where}
 use Rattle.slice.proofs.Laid.{text-front, rest-of, part-short, entries-count}
 
@@ -64,15 +65,6 @@ log-judged n w cells s a b i x y f g t q e u h =
     ∙ sym (ap (λ (l : Bool). l && is-book (log-book n w cells (take i (drop a s)) (drop b s))) (sym q ∙ not-false t e))
 
 -- ---- what is held
-
--- the answer, and what is left in the arrays where a plan is held
-abbrev pub Ends : List ℕ → Arrays → Holding → Arrays → Type 0
-Ends s a x b = (x ≡ holding (held s)) × ((h : Held) → held s ≡ some h → numbers-of a (h .plan) ≡ b)
-
--- nothing is
-nothing-held : (s : List ℕ) (a b : Arrays) → held s ≡ none → Ends s a Holding.NoPlan b
-unfolding holding
-nothing-held s a b e = (sym (ap holding e), λ h f. absurd (Option·none-ne-some _ (sym e ∙ f)))
 
 -- tables that are refused are not held
 refused-none : (s : List ℕ) (r : Refusal) → judge (tables-in s) ≡ refused r → held s ≡ none
@@ -115,6 +107,15 @@ no-book none e = refl
 no-book (some b) e = absurd (true≢false e)
 
 -- ---- from the tables that were read
+
+-- the answer, and what is left in the arrays where the tables give a plan
+abbrev pub Ends : List ℕ → Arrays → Holding → Arrays → Type 0
+Ends s a x b = (x ≡ laying (length (log-in s)) (laid s)) × ((q : Plan) → laid s ≡ some q → numbers-of a q ≡ b)
+
+-- they give none
+nothing-laid : (s : List ℕ) (a b : Arrays) → laid s ≡ none → Ends s a Holding.NoPlan b
+unfolding laying
+nothing-laid s a b e = (sym (ap (laying (length (log-in s))) e), λ q f. absurd (Option·none-ne-some _ (sym e ∙ f)))
 
 -- a reader that had room answers and leaves what the judgement says
 into-says : (r c p e v k : List ℕ) → 4096 ≤ length e → 128 ≤ length v → 8192 ≤ length k → (x : Reading) (edges speeds cells : List ℕ)
@@ -178,87 +179,31 @@ module _ (s : List ℕ) (alone : nothing-else s (tables-in s) (log-in s) ≡ tru
       into-says (tables-in s .roads) (tables-in s .carts) (tables-in s .paths) e v k (fits .0) (fits .1) (fits .2) x edges speeds cells
       (tables-found s r c p (sizes .0) (sizes .1) (sizes .2) e v k x edges speeds cells i)
 
+  -- so the plan laid out is that of the tables
+  laid-is : laid s ≡ plan-of (read-tables (tables-in s))
+  unfolding laid
+  laid-is = ap (λ (t : Bool). cond t (plan-of (read-tables (tables-in s))) none) alone
+
   -- the tables are refused
   pub parts-refused : (why : Refusal) → x ≡ Reading.Refused why → Ends s lent Holding.NoPlan left
-  unfolding judge
-  parts-refused why q =
-      nothing-held s lent left
-      (refused-none s why (ends (read-tables (tables-in s)) within-limits why (answer-refused (read-tables (tables-in s)) why (sym q ∙ said .0))))
+  unfolding plan-of
+  parts-refused why q = nothing-laid s lent left (laid-is ∙ ap plan-of (answer-refused (read-tables (tables-in s)) why (sym q ∙ said .0)))
 
   -- they are never said to be too short
   pub parts-short : x ≡ Reading.TooShort → Ends s lent Holding.NoPlan left
   parts-short q = absurd (answer-short (read-tables (tables-in s)) (sym q ∙ said .0))
 
-  -- a plan was read, and its log looked at
-  module _ (a b w : ℕ) (q : x ≡ Reading.Read a b w) (t : Bool)
-      (found : t ≡ (paths-within b w cells && is-book (log-book b w cells (take n (drop 196_608 s)) (drop 200_704 s)))) where
-    plan : (y : Plan) × (read-tables (tables-in s) ≡ accepted y)
-    plan = answer-read (read-tables (tables-in s)) a b w (sym q ∙ said .0)
-
-    -- its numbers are those that were told
-    numbers : (a ≡ length (plan .0 .roads)) × ((b ≡ length (plan .0 .carts)) × (w ≡ steps (plan .0 .paths)))
-    numbers = answer-numbers (plan .0) a b w (sym q ∙ said .0 ∙ ap read-answer (plan .1))
-
-    -- the cells are those of its paths
-    cells-are : cells ≡ padded (length k) (path-cells (plan .0 .paths))
-    unfolding numbers-of
-    cells-are = sym (ap (λ (o : Arrays). o .cells) (said .1 (plan .0) (plan .1)))
-
-    -- and the tests are those of the plan
-    tests : t ≡ (limits-kept (plan .0) && is-book (log-book (length (plan .0 .carts)) (steps (plan .0 .paths)) (padded (length k) (path-cells (plan .0 .paths))) (take n (drop 196_608 s)) (drop 200_704 s)))
-    tests =
-        let (y, f) = plan in
-        let (_, (eb, ew)) = numbers in
-        let l : List ℕ = take n (drop 196_608 s) in
-        let d : List ℕ = drop 200_704 s in
-        found ∙ ap (λ (z : List ℕ). paths-within b w z && is-book (log-book b w z l d)) cells-are
-        ∙ ap₂ {C = Bool} (λ (g h : ℕ). paths-within g h (padded (length k) (path-cells (y .paths))) && is-book (log-book g h (padded (length k) (path-cells (y .paths))) l d)) eb ew
-        ∙ ap (λ (z : Bool). z && is-book (log-book (length (y .carts)) (steps (y .paths)) (padded (length k) (path-cells (y .paths))) l d)) (paths-within-is (tables-in s) y f (length k) (fits .2))
-
-    -- over the limits the tables are refused
-    over : limits-kept (plan .0) ≡ false → held s ≡ none
-    unfolding judge
-    over h = let (y, f) = plan in refused-none s _ (goes-on (read-tables (tables-in s)) within-limits y f ∙ within-over y h)
-
-    module _ (h : limits-kept (plan .0) ≡ true) where
-      -- within them they are accepted
-      judged : judge (tables-in s) ≡ accepted (plan .0)
-      unfolding judge
-      judged = let (y, f) = plan in goes-on (read-tables (tables-in s)) within-limits y f ∙ within-kept y h
-
-      -- and the other test asks for the book
-      book-asked : t ≡ is-book (replay (plan .0) (first-book (plan .0)) (log-in s))
-      book-asked =
-          let (y, f) = plan in
-          tests
-          ∙ ap (λ (z : Bool). z && is-book (log-book (length (y .carts)) (steps (y .paths)) (padded (length k) (path-cells (y .paths))) (take n (drop 196_608 s)) (drop 200_704 s))) h
-          ∙ ap is-book (log-book-is (tables-in s) y f h (length k) (fits .2) (take n (drop 196_608 s)) (drop 200_704 s)
-          ∙ ap (replay y (first-book y)) (log-found s n (sizes .3)))
-
-    -- one of them fails
-    pub parts-not-held : t ≡ false → Ends s lent Holding.NoPlan left
-    parts-not-held z = nothing-held s lent left (by (limits-kept (plan .0)) refl)
-      where
-        by : (l : Bool) → limits-kept (plan .0) ≡ l → held s ≡ none
-        by false h = over h
-        by true h = log-none s (plan .0) (judged h) (no-book (replay (plan .0) (first-book (plan .0)) (log-in s)) (sym (book-asked h) ∙ z))
-
-    -- neither fails
-    pub parts-held : t ≡ true → Ends s lent (Holding.Held a b w n) left
-    unfolding held holding
-    parts-held z = by (limits-kept (plan .0)) refl
-      where
-        by : (l : Bool) → limits-kept (plan .0) ≡ l → Ends s lent (Holding.Held a b w n) left
-        by false h = absurd (true≢false (sym z ∙ tests ∙ ap (λ (g : Bool). g && is-book (log-book (length (plan .0 .carts)) (steps (plan .0 .paths)) (padded (length k) (path-cells (plan .0 .paths))) (take n (drop 196_608 s)) (drop 200_704 s))) h))
-        by true h =
-            let y : Plan = plan .0 in
-            let (g, eg) = a-book (replay y (first-book y) (log-in s)) (sym (book-asked h) ∙ z) in
-            let all : Held = record { tables = tables-in s; log = log-in s; plan = y; book = g } in
-            let is : held s ≡ some all = ap (held-by s (tables-in s) (log-in s)) (judged h) ∙ held-where s (tables-in s) (log-in s) y g eg alone in (
-              ap₂ {C = Holding} (λ (i j : ℕ). Holding.Held i j w n) (numbers .0) (numbers .1 .0)
-                  ∙ ap₂ {C = Holding} (Holding.Held (length (y .roads)) (length (y .carts))) (numbers .1 .1) (sizes .3) ∙ sym (ap holding is),
-              λ f ef. ap (λ (u : Held). numbers-of lent (u .plan)) (Option·some-injective _ _ (sym ef ∙ is)) ∙ said .1 y (plan .1),
-            )
+  -- a plan was read, and its numbers are those that were told
+  pub parts-laid : (a b w : ℕ) → x ≡ Reading.Read a b w → Ends s lent (Holding.Held a b w n) left
+  unfolding laying plan-of
+  parts-laid a b w q =
+      let (y, f) = answer-read (read-tables (tables-in s)) a b w (sym q ∙ said .0) in
+      let (ea, (eb, ew)) = answer-numbers y a b w (sym q ∙ said .0 ∙ ap read-answer f) in
+      let is : laid s ≡ some y = laid-is ∙ ap plan-of f in (
+        ap₂ {C = Holding} (λ (i j : ℕ). Holding.Held i j w n) ea eb
+            ∙ ap₂ {C = Holding} (Holding.Held (length (y .roads)) (length (y .carts))) ew (sizes .3) ∙ sym (ap (laying (length (log-in s))) is),
+        λ u e. ap (λ (z : Plan). numbers-of lent z) (Option·some-injective _ _ (sym e ∙ is)) ∙ said .1 y f,
+      )
 
 -- ---- from the layout
 
@@ -277,16 +222,16 @@ reports : Layout → ℕ
 reports Layout.Broken = 0
 reports (Layout.Parts r c p n) = n
 
--- a slice that is laid out otherwise holds nothing
-pub broken-held : (s : List ℕ) (a b : Arrays) → Layout.Broken ≡ layout s → Ends s a Holding.NoPlan b
-unfolding layout held broken
-broken-held s a b e = nothing-held s a b (by (nothing-else s (tables-in s) (log-in s)) refl e)
+-- a slice that is laid out otherwise gives no plan
+pub broken-laid : (s : List ℕ) (a b : Arrays) → Layout.Broken ≡ layout s → Ends s a Holding.NoPlan b
+unfolding layout laid broken
+broken-laid s a b e = nothing-laid s a b (by (nothing-else s (tables-in s) (log-in s)) refl e)
   where
     by : (t : Bool) → nothing-else s (tables-in s) (log-in s) ≡ t
         → Layout.Broken ≡ cond t (Layout.Parts (length (tables-in s .roads)) (length (tables-in s .carts)) (length (tables-in s .paths)) (length (log-in s))) Layout.Broken
-        → held s ≡ none
+        → laid s ≡ none
     by true q f = absurd (true≢false (ap broken f))
-    by false q f = else-none s (tables-in s) (log-in s) (judge (tables-in s)) q
+    by false q f = ap (λ (t : Bool). cond t (plan-of (read-tables (tables-in s))) none) q
 
 -- the parts of one that is not
 pub parts-found : (s : List ℕ) (r c p n : ℕ) → Layout.Parts r c p n ≡ layout s
@@ -312,79 +257,322 @@ tells Holding.TooShort = false
 tells Holding.NoPlan = false
 tells (Holding.Held a b w n) = true
 
--- it does where one is held
+-- it does where one is
 pub nothing-told : (o : Option Held) → Holding.NoPlan ≡ holding o → o ≡ none
 unfolding holding tells
 nothing-told none e = refl
 nothing-told (some h) e = absurd (true≢false (sym (ap tells e)))
 
-module _ (s e v k : List ℕ) where
+none-laid : (n : ℕ) (o : Option Plan) → Holding.NoPlan ≡ laying n o → o ≡ none
+unfolding laying tells
+none-laid n none e = refl
+none-laid n (some p) e = absurd (true≢false (sym (ap tells e)))
+
+-- whether an answer is that something is too short
+short : Holding → Bool
+short Holding.TooShort = true
+short Holding.NoPlan = false
+short (Holding.Held a b w n) = false
+
+-- it is not said of what is laid out
+laid-long : (n : ℕ) (o : Option Plan) → ¬ (Holding.TooShort ≡ laying n o)
+unfolding laying short
+laid-long n none e = true≢false (ap short e)
+laid-long n (some p) e = true≢false (ap short e)
+
+-- a reader that tells y and leaves z, where slice and arrays are long enough
+module _ (s e v k : List ℕ) (y : Holding) (z : Arrays) where
   -- the arrays as they were lent
   abbrev came : Arrays
   came = record { roads = e; carts = v; cells = k }
 
-  -- the answer and the three arrays are those of `plan-into`
+  -- the answer and the three arrays are those
   abbrev pub Left : Holding → List ℕ → List ℕ → List ℕ → Type 0
   Left x edges speeds cells =
-      (x ≡ plan-into s e v k .answer)
-      × ((edges ≡ plan-into s e v k .arrays .roads) × ((speeds ≡ plan-into s e v k .arrays .carts) × (cells ≡ plan-into s e v k .arrays .cells)))
+      (x ≡ where-room s came y z .answer)
+      × ((edges ≡ where-room s came y z .arrays .roads) × ((speeds ≡ where-room s came y z .arrays .carts) × (cells ≡ where-room s came y z .arrays .cells)))
 
   -- an outcome, in four parts
-  four : (o : Outcome) → plan-into s e v k ≡ o → Left (o .answer) (o .arrays .roads) (o .arrays .carts) (o .arrays .cells)
+  four : (o : Outcome) → where-room s came y z ≡ o → Left (o .answer) (o .arrays .roads) (o .arrays .carts) (o .arrays .cells)
   four o q = (
-    sym (ap (λ (y : Outcome). y .answer) q),
-    (sym (ap (λ (y : Outcome). y .arrays .roads) q), (sym (ap (λ (y : Outcome). y .arrays .carts) q), sym (ap (λ (y : Outcome). y .arrays .cells) q))),
+    sym (ap (λ (u : Outcome). u .answer) q),
+    (sym (ap (λ (u : Outcome). u .arrays .roads) q), (sym (ap (λ (u : Outcome). u .arrays .carts) q), sym (ap (λ (u : Outcome). u .arrays .cells) q))),
   )
 
   -- by the test of slice and arrays
   outcome : (t : Bool) → (leb 233_472 (length s) && room came) ≡ t
-      → plan-into s e v k ≡ elim t as (λ _. Outcome) [
-        | false ↦ record { answer = Holding.TooShort; arrays = came }
-        | true ↦ record { answer = holding (held s); arrays = arrays-held came (held s) }
-      ]
-  unfolding plan-into read-slice
+      → where-room s came y z ≡ elim t as (λ _. Outcome) [ false ↦ record { answer = Holding.TooShort; arrays = came } | true ↦ record { answer = y; arrays = z } ]
+  unfolding where-room
   outcome t q =
-      ap (λ (b : Bool). elim b as (λ _. Outcome) [
-        | false ↦ record { answer = Holding.TooShort; arrays = came }
-        | true ↦ record { answer = holding (held s); arrays = arrays-held came (held s) }
-      ]) q
+      ap (λ (b : Bool). elim b as (λ _. Outcome) [ false ↦ record { answer = Holding.TooShort; arrays = came } | true ↦ record { answer = y; arrays = z } ]) q
 
-  -- the slice is too short
-  pub slice-short : length s < 233_472 → Left Holding.TooShort e v k
-  slice-short h =
-      four (record { answer = Holding.TooShort; arrays = came }) (outcome false (ap (λ (b : Bool). b && room came) (lt-leb 233_472 (length s) h)))
+  -- something is too short
+  too-short : (leb 233_472 (length s) && room came) ≡ false → Left Holding.TooShort e v k
+  too-short q = four (record { answer = Holding.TooShort; arrays = came }) (outcome false q)
 
-  -- or an array
-  pub array-short : (length e < 4096) ⊎ ((length v < 128) ⊎ (length k < 8192)) → Left Holding.TooShort e v k
-  array-short h =
-      four (record { answer = Holding.TooShort; arrays = came })
-      (outcome false (ap (λ (b : Bool). leb 233_472 (length s) && b) (no-room e v k h) ∙ and-false (leb 233_472 (length s))))
+  -- nothing is
+  long-enough : (leb 233_472 (length s) && room came) ≡ true → Left y (z .roads) (z .carts) (z .cells)
+  long-enough q = four (record { answer = y; arrays = z }) (outcome true q)
 
-  -- neither is
-  module _ (long : 233_472 ≤ length s) (re : 4096 ≤ length e) (rv : 128 ≤ length v) (rk : 8192 ≤ length k) where
-    read : (o : Option Held) → held s ≡ o → plan-into s e v k ≡ record { answer = holding o; arrays = arrays-held came o }
-    read o q =
-        outcome true (ap₂ {C = Bool} _&&_ (le-leb 233_472 (length s) long) (room-for e v k re rv rk))
-        ∙ ap (λ (y : Option Held). record { answer = holding y; arrays = arrays-held came y }) q
+-- the slice is too short
+short-slice : (s e v k : List ℕ) → length s < 233_472 → (leb 233_472 (length s) && room (record { roads = e; carts = v; cells = k })) ≡ false
+short-slice s e v k h = ap (λ (b : Bool). b && room (record { roads = e; carts = v; cells = k })) (lt-leb 233_472 (length s) h)
 
-    -- nothing is held, and the arrays are cleared
-    pub plan-none : (x : Holding) → x ≡ holding (held s) → x ≡ Holding.NoPlan → (edges speeds cells : List ℕ)
-        → edges ≡ replicate (length e) 0 → speeds ≡ replicate (length v) 0 → cells ≡ replicate (length k) 0 → Left x edges speeds cells
-    unfolding holding arrays-held zeros
-    plan-none x q f edges speeds cells a b c =
-        let (g, (h, (i, j))) = four _ (read none (nothing-told (held s) (sym f ∙ q))) in (f ∙ g, (a ∙ h, (b ∙ i, c ∙ j)))
+-- or an array is
+short-array : (s e v k : List ℕ) → (length e < 4096) ⊎ ((length v < 128) ⊎ (length k < 8192))
+    → (leb 233_472 (length s) && room (record { roads = e; carts = v; cells = k })) ≡ false
+short-array s e v k h = ap (λ (b : Bool). leb 233_472 (length s) && b) (no-room e v k h) ∙ and-false (leb 233_472 (length s))
 
-    -- a plan is, and its numbers are there
-    pub plan-held : (x : Holding) (edges speeds cells : List ℕ) → Ends s came x (record { roads = edges; carts = speeds; cells = cells })
-        → (x ≡ Holding.NoPlan → ⊥) → Left x edges speeds cells
-    unfolding holding arrays-held
-    plan-held x edges speeds cells (q, left) other = by (held s) refl
+-- all are long enough
+pub all-long : (s e v k : List ℕ) → 233_472 ≤ length s → 4096 ≤ length e → 128 ≤ length v → 8192 ≤ length k
+    → (leb 233_472 (length s) && room (record { roads = e; carts = v; cells = k })) ≡ true
+all-long s e v k long re rv rk = ap₂ {C = Bool} _&&_ (le-leb 233_472 (length s) long) (room-for e v k re rv rk)
+
+-- and so the slice and the array of cells
+long-there : (s e v k : List ℕ) → (leb 233_472 (length s) && room (record { roads = e; carts = v; cells = k })) ≡ true → (233_472 ≤ length s) × (8192 ≤ length k)
+unfolding room
+long-there s e v k q =
+    let (a, b) = and-yes (leb 233_472 (length s)) (room (record { roads = e; carts = v; cells = k })) (subst T (sym q) tt) in
+    (leb→le 233_472 (length s) a, leb→le 8192 (length k) (and-yes (leb 4096 (length e) && leb 128 (length v)) (leb 8192 (length k)) b .1))
+
+-- ---- the reader of what is laid out
+
+module _ (s e v k : List ℕ) where
+  abbrev lent-laid : Arrays
+  lent-laid = record { roads = e; carts = v; cells = k }
+
+  -- the answer and the three arrays are those of `laid-into`
+  abbrev pub LaidLeft : Holding → List ℕ → List ℕ → List ℕ → Type 0
+  LaidLeft x edges speeds cells =
+      (x ≡ laid-into s e v k .answer)
+      × ((edges ≡ laid-into s e v k .arrays .roads) × ((speeds ≡ laid-into s e v k .arrays .carts) × (cells ≡ laid-into s e v k .arrays .cells)))
+
+  -- something is too short
+  laid-short : (leb 233_472 (length s) && room lent-laid) ≡ false → LaidLeft Holding.TooShort e v k
+  unfolding laid-into
+  laid-short q = too-short s e v k (laying (length (log-in s)) (laid s)) (arrays-laid lent-laid (laid s)) q
+
+  pub slice-over : length s < 233_472 → LaidLeft Holding.TooShort e v k
+  slice-over h = laid-short (short-slice s e v k h)
+
+  pub array-over : (length e < 4096) ⊎ ((length v < 128) ⊎ (length k < 8192)) → LaidLeft Holding.TooShort e v k
+  array-over h = laid-short (short-array s e v k h)
+
+  module _ (q : (leb 233_472 (length s) && room lent-laid) ≡ true) where
+    of-laid : (o : Option Plan) → laid s ≡ o
+        → LaidLeft (laying (length (log-in s)) o) (arrays-laid lent-laid o .roads) (arrays-laid lent-laid o .carts) (arrays-laid lent-laid o .cells)
+    unfolding laid-into
+    of-laid o f =
+        subst (λ (i : Option Plan). LaidLeft (laying (length (log-in s)) i) (arrays-laid lent-laid i .roads) (arrays-laid lent-laid i .carts) (arrays-laid lent-laid i .cells)) f
+        (long-enough s e v k (laying (length (log-in s)) (laid s)) (arrays-laid lent-laid (laid s)) q)
+
+    -- the tables give no plan, and the arrays are cleared
+    pub laid-none : (x : Holding) → x ≡ laying (length (log-in s)) (laid s) → x ≡ Holding.NoPlan → (edges speeds cells : List ℕ)
+        → edges ≡ replicate (length e) 0 → speeds ≡ replicate (length v) 0 → cells ≡ replicate (length k) 0 → LaidLeft x edges speeds cells
+    unfolding laying arrays-laid zeros
+    laid-none x g f edges speeds cells a b c =
+        let (h, (i, (j, l))) = of-laid none (none-laid (length (log-in s)) (laid s) (sym f ∙ g)) in (f ∙ h, (a ∙ i, (b ∙ j, c ∙ l)))
+
+    -- they give one, and its numbers are there
+    pub laid-there : (x : Holding) (edges speeds cells : List ℕ) → Ends s lent-laid x (record { roads = edges; carts = speeds; cells = cells })
+        → (x ≡ Holding.NoPlan → ⊥) → LaidLeft x edges speeds cells
+    unfolding laying arrays-laid
+    laid-there x edges speeds cells (g, left) other = by (laid s) refl
       where
-        by : (o : Option Held) → held s ≡ o → Left x edges speeds cells
-        by none f = absurd (other (q ∙ ap holding f))
-        by (some h) f =
-            let (g, (i, (j, l))) = four _ (read (some h) f) in
-            let n : numbers-of came (h .plan) ≡ record { roads = edges; carts = speeds; cells = cells } = left h f in (
-              q ∙ ap holding f ∙ g,
+        by : (o : Option Plan) → laid s ≡ o → LaidLeft x edges speeds cells
+        by none f = absurd (other (g ∙ ap (laying (length (log-in s))) f))
+        by (some p) f =
+            let (h, (i, (j, l))) = of-laid (some p) f in
+            let n : numbers-of lent-laid p ≡ record { roads = edges; carts = speeds; cells = cells } = left p f in (
+              g ∙ ap (laying (length (log-in s))) f ∙ h,
               (ap (λ (u : Arrays). u .roads) (sym n) ∙ i, (ap (λ (u : Arrays). u .carts) (sym n) ∙ j, ap (λ (u : Arrays). u .cells) (sym n) ∙ l)),
             )
+
+-- ---- from what is laid out to what is held
+
+-- where the tables give no plan none is held
+unlaid-none : (s : List ℕ) → laid s ≡ none → held s ≡ none
+unfolding laid plan-of held judge
+unlaid-none s e = by (nothing-else s (tables-in s) (log-in s)) refl (read-tables (tables-in s)) refl e
+  where
+    by : (t : Bool) → nothing-else s (tables-in s) (log-in s) ≡ t → (j : Judged Plan) → read-tables (tables-in s) ≡ j → cond t (plan-of j) none ≡ none → held s ≡ none
+    by false q j f z = else-none s (tables-in s) (log-in s) (judge (tables-in s)) q
+    by true q (refused r) f z = refused-none s r (ends (read-tables (tables-in s)) within-limits r f)
+    by true q (accepted p) f z = absurd (Option·none-ne-some _ (sym z))
+
+-- where they give one they are read, and there is nothing else
+pub laid-says : (s : List ℕ) (p : Plan) → laid s ≡ some p → (nothing-else s (tables-in s) (log-in s) ≡ true) × (read-tables (tables-in s) ≡ accepted p)
+unfolding laid plan-of
+laid-says s p e = by (nothing-else s (tables-in s) (log-in s)) refl (read-tables (tables-in s)) refl e
+  where
+    by : (t : Bool) → nothing-else s (tables-in s) (log-in s) ≡ t → (j : Judged Plan) → read-tables (tables-in s) ≡ j → cond t (plan-of j) none ≡ some p
+        → (nothing-else s (tables-in s) (log-in s) ≡ true) × (read-tables (tables-in s) ≡ accepted p)
+    by false q j f z = absurd (Option·none-ne-some _ z)
+    by true q (refused r) f z = absurd (Option·none-ne-some _ z)
+    by true q (accepted y) f z = (q, f ∙ ap accepted (Option·some-injective _ _ z))
+
+module _ (s : List ℕ) (p : Plan) (l : laid s ≡ some p) where
+  -- over the limits the tables are refused
+  pub over : limits-kept p ≡ false → held s ≡ none
+  unfolding judge
+  over h = refused-none s _ (goes-on (read-tables (tables-in s)) within-limits p (laid-says s p l .1) ∙ within-over p h)
+
+  module _ (h : limits-kept p ≡ true) where
+    -- within them they are accepted
+    pub accepted-laid : judge (tables-in s) ≡ accepted p
+    unfolding judge
+    accepted-laid = goes-on (read-tables (tables-in s)) within-limits p (laid-says s p l .1) ∙ within-kept p h
+
+    -- and the log decides
+    pub no-log : replay p (first-book p) (log-in s) ≡ none → held s ≡ none
+    no-log = log-none s p accepted-laid
+
+    pub is-held : (b : Book) → replay p (first-book p) (log-in s) ≡ some b → held s ≡ some (record { tables = tables-in s; log = log-in s; plan = p; book = b })
+    unfolding held
+    is-held b e = ap (held-by s (tables-in s) (log-in s)) accepted-laid ∙ held-where s (tables-in s) (log-in s) p b e (laid-says s p l .0)
+
+-- ---- the reader of what is held
+
+module _ (s e v k : List ℕ) where
+  abbrev lent-held : Arrays
+  lent-held = record { roads = e; carts = v; cells = k }
+
+  -- the answer and the three arrays are those of `plan-into`
+  abbrev pub HeldLeft : Holding → List ℕ → List ℕ → List ℕ → Type 0
+  HeldLeft x edges speeds cells =
+      (x ≡ plan-into s e v k .answer)
+      × ((edges ≡ plan-into s e v k .arrays .roads) × ((speeds ≡ plan-into s e v k .arrays .carts) × (cells ≡ plan-into s e v k .arrays .cells)))
+
+  of-held : (leb 233_472 (length s) && room lent-held) ≡ true → (o : Option Held) → held s ≡ o
+      → HeldLeft (holding o) (arrays-held lent-held o .roads) (arrays-held lent-held o .carts) (arrays-held lent-held o .cells)
+  unfolding plan-into read-slice
+  of-held q o f =
+      subst (λ (i : Option Held). HeldLeft (holding i) (arrays-held lent-held i .roads) (arrays-held lent-held i .carts) (arrays-held lent-held i .cells)) f
+      (long-enough s e v k (holding (held s)) (arrays-held lent-held (held s)) q)
+
+  -- nothing is held, and the arrays are cleared
+  held-none : (leb 233_472 (length s) && room lent-held) ≡ true → held s ≡ none → (edges speeds cells : List ℕ)
+      → edges ≡ replicate (length e) 0 → speeds ≡ replicate (length v) 0 → cells ≡ replicate (length k) 0 → HeldLeft Holding.NoPlan edges speeds cells
+  unfolding holding arrays-held zeros
+  held-none q f edges speeds cells a b c = let (h, (i, (j, l))) = of-held q none f in (h, (a ∙ i, (b ∙ j, c ∙ l)))
+
+  -- from what the reader of what is laid out answers and leaves
+  module _ (x : Holding) (edges speeds cells : List ℕ) (laid-left : LaidLeft s e v k x edges speeds cells) where
+    -- something is too short
+    pub plan-short : x ≡ Holding.TooShort → HeldLeft Holding.TooShort edges speeds cells
+    unfolding plan-into read-slice
+    plan-short q = by (leb 233_472 (length s) && room lent-held) refl
+      where
+        by : (t : Bool) → (leb 233_472 (length s) && room lent-held) ≡ t → HeldLeft Holding.TooShort edges speeds cells
+        by false f =
+            let (_, (a, (b, c))) = laid-left in
+            let (_, (a′, (b′, c′))) = laid-short s e v k f in
+            let (h, (i, (j, l))) = too-short s e v k (holding (held s)) (arrays-held lent-held (held s)) f in
+            (h, (a ∙ sym a′ ∙ i, (b ∙ sym b′ ∙ j, c ∙ sym c′ ∙ l)))
+        by true f = absurd (laid-long (length (log-in s)) (laid s) (sym q ∙ laid-left .0 ∙ sym (of-laid s e v k f (laid s) refl .0)))
+
+    -- the tables give no plan
+    pub plan-none : x ≡ Holding.NoPlan → HeldLeft Holding.NoPlan edges speeds cells
+    unfolding arrays-laid zeros short
+    plan-none q = by (leb 233_472 (length s) && room lent-held) refl
+      where
+        by : (t : Bool) → (leb 233_472 (length s) && room lent-held) ≡ t → HeldLeft Holding.NoPlan edges speeds cells
+        by false f = absurd (true≢false (sym (ap short (sym q ∙ laid-left .0 ∙ sym (laid-short s e v k f .0)))))
+        by true f =
+            let no : laid s ≡ none = none-laid (length (log-in s)) (laid s) (sym q ∙ laid-left .0 ∙ sym (of-laid s e v k f (laid s) refl .0)) in
+            let (_, (a, (b, c))) = laid-left in
+            let (_, (a′, (b′, c′))) = of-laid s e v k f none no in
+            held-none f (unlaid-none s no) edges speeds cells (a ∙ sym a′) (b ∙ sym b′) (c ∙ sym c′)
+
+    -- they give one
+    module _ (a b w n : ℕ) (q : x ≡ Holding.Held a b w n) where
+      long : (leb 233_472 (length s) && room lent-held) ≡ true
+      unfolding short
+      long = by (leb 233_472 (length s) && room lent-held) refl
+        where
+          by : (t : Bool) → (leb 233_472 (length s) && room lent-held) ≡ t → (leb 233_472 (length s) && room lent-held) ≡ true
+          by true f = f
+          by false f = absurd (true≢false (ap short (laid-short s e v k f .0 ∙ sym (laid-left .0) ∙ q)))
+
+      pub slice-long : 233_472 ≤ length s
+      slice-long = long-there s e v k long .0
+
+      told : Holding.Held a b w n ≡ laying (length (log-in s)) (laid s)
+      told = sym q ∙ laid-left .0 ∙ sym (of-laid s e v k long (laid s) refl .0)
+
+      plan : (p : Plan) × (laid s ≡ some p)
+      unfolding laying tells
+      plan = by (laid s) refl
+        where
+          by : (o : Option Plan) → laid s ≡ o → (p : Plan) × (laid s ≡ some p)
+          by none f = absurd (true≢false (ap tells (told ∙ ap (laying (length (log-in s))) f)))
+          by (some p) f = (p, f)
+
+      -- its numbers are those that were told
+      numbers : Holding.Held a b w n ≡ Holding.Held (length (plan .0 .roads)) (length (plan .0 .carts)) (steps (plan .0 .paths)) (length (log-in s))
+      unfolding laying
+      numbers = told ∙ ap (laying (length (log-in s))) (plan .1)
+
+      carts-are : b ≡ length (plan .0 .carts)
+      carts-are = ap (λ (y : Holding). elim y [ Holding.TooShort ↦ 0 | Holding.NoPlan ↦ 0 | Holding.Held i j l m ↦ j ]) numbers
+
+      steps-are : w ≡ steps (plan .0 .paths)
+      steps-are = ap (λ (y : Holding). elim y [ Holding.TooShort ↦ 0 | Holding.NoPlan ↦ 0 | Holding.Held i j l m ↦ l ]) numbers
+
+      reports-are : n ≡ length (log-in s)
+      reports-are = ap (λ (y : Holding). elim y [ Holding.TooShort ↦ 0 | Holding.NoPlan ↦ 0 | Holding.Held i j l m ↦ m ]) numbers
+
+      pub reports-few : n ≤ 4096
+      reports-few = omega (arith, reports-are, log-few s)
+
+      -- and in the arrays
+      there : (edges ≡ numbers-of lent-held (plan .0) .roads) × ((speeds ≡ numbers-of lent-held (plan .0) .carts) × (cells ≡ numbers-of lent-held (plan .0) .cells))
+      unfolding arrays-laid
+      there =
+          let (_, (c, (d, f))) = laid-left in
+          let (_, (c′, (d′, f′))) = of-laid s e v k long (some (plan .0)) (plan .1) in
+          (c ∙ sym c′, (d ∙ sym d′, f ∙ sym f′))
+
+      -- its log was looked at
+      module _ (t : Bool) (found : t ≡ (paths-within b w cells && is-book (log-book b w cells (take n (drop 196_608 s)) (drop 200_704 s)))) where
+        -- the tests are those of the plan
+        tests : t ≡ (limits-kept (plan .0) && is-book (log-book (length (plan .0 .carts)) (steps (plan .0 .paths)) (padded (length k) (path-cells (plan .0 .paths))) (take n (drop 196_608 s)) (drop 200_704 s)))
+        unfolding numbers-of
+        tests =
+            let y : Plan = plan .0 in
+            let l : List ℕ = take n (drop 196_608 s) in
+            let d : List ℕ = drop 200_704 s in
+            found ∙ ap (λ (z : List ℕ). paths-within b w z && is-book (log-book b w z l d)) (there .1 .1)
+            ∙ ap₂ {C = Bool} (λ (g h : ℕ). paths-within g h (padded (length k) (path-cells (y .paths))) && is-book (log-book g h (padded (length k) (path-cells (y .paths))) l d)) carts-are steps-are
+            ∙ ap (λ (z : Bool). z && is-book (log-book (length (y .carts)) (steps (y .paths)) (padded (length k) (path-cells (y .paths))) l d))
+            (paths-within-is (tables-in s) y (laid-says s y (plan .1) .1) (length k) (long-there s e v k long .1))
+
+        -- within the limits the other test asks for the book
+        book-asked : limits-kept (plan .0) ≡ true → t ≡ is-book (replay (plan .0) (first-book (plan .0)) (log-in s))
+        book-asked h =
+            let y : Plan = plan .0 in
+            tests
+            ∙ ap (λ (z : Bool). z && is-book (log-book (length (y .carts)) (steps (y .paths)) (padded (length k) (path-cells (y .paths))) (take n (drop 196_608 s)) (drop 200_704 s))) h
+            ∙ ap is-book (log-book-is (tables-in s) y (laid-says s y (plan .1) .1) h (length k) (long-there s e v k long .1) (take n (drop 196_608 s)) (drop 200_704 s)
+            ∙ ap (replay y (first-book y)) (log-found s n reports-are))
+
+        -- one of them fails, and the arrays are cleared
+        pub plan-not-held : t ≡ false → (u x′ y′ : List ℕ) → u ≡ replicate (length e) 0 → x′ ≡ replicate (length v) 0 → y′ ≡ replicate (length k) 0 → HeldLeft Holding.NoPlan u x′ y′
+        plan-not-held z u x′ y′ = held-none long (by (limits-kept (plan .0)) refl) u x′ y′
+          where
+            by : (l : Bool) → limits-kept (plan .0) ≡ l → held s ≡ none
+            by false h = over s (plan .0) (plan .1) h
+            by true h = no-log s (plan .0) (plan .1) h (no-book (replay (plan .0) (first-book (plan .0)) (log-in s)) (sym (book-asked h) ∙ z))
+
+        -- neither fails
+        pub plan-held : t ≡ true → HeldLeft (Holding.Held a b w n) edges speeds cells
+        unfolding holding arrays-held
+        plan-held z = by (limits-kept (plan .0)) refl
+          where
+            by : (l : Bool) → limits-kept (plan .0) ≡ l → HeldLeft (Holding.Held a b w n) edges speeds cells
+            by false h =
+                absurd (true≢false (sym z ∙ tests ∙ ap (λ (g : Bool). g && is-book (log-book (length (plan .0 .carts)) (steps (plan .0 .paths)) (padded (length k) (path-cells (plan .0 .paths))) (take n (drop 196_608 s)) (drop 200_704 s))) h))
+            by true h =
+                let (g, eg) = a-book (replay (plan .0) (first-book (plan .0)) (log-in s)) (sym (book-asked h) ∙ z) in
+                let (y, (i, (j, l))) = of-held long _ (is-held s (plan .0) (plan .1) h g eg) in
+                (numbers ∙ y, (there .0 ∙ i, (there .1 .0 ∙ j, there .1 .1 ∙ l)))

@@ -6,8 +6,10 @@ use mathlib.Core.List.{List, [], _∷_}
 use mathlib.Core.Option.{Option, none, some}
 use lib.Dec.{leb, eqb}
 use lib.ListN.{length}
+use Rattle.floor.specs.Refusal.{Judged, refused, accepted}
+use Rattle.floor.specs.Plan.{Plan}
 use Rattle.floor.specs.Paths.{steps}
-use Rattle.floor.specs.Tables.{Tables}
+use Rattle.floor.specs.Tables.{Tables, read-tables}
 use Rattle.tables.specs.Reading.{Arrays, room, zeros, numbers-of}
 use Rattle.slice.specs.declared.Holding.{Holding}
 use Rattle.slice.specs.declared.Layout.{Layout}
@@ -40,18 +42,44 @@ pub record Outcome : Type 0 where
   pub arrays : Arrays
 
 -- where the slice is too short or the arrays have no room they stay as they came
+unfoldable pub where-room : List ℕ → Arrays → Holding → Arrays → Outcome
+where-room s a x b =
+    elim (leb plan-need (length s) && room a) [ false ↦ record { answer = Holding.TooShort; arrays = a } | true ↦ record { answer = x; arrays = b } ]
+
+-- the plan that a slice holds, read into arrays
 unfoldable pub read-slice : List ℕ → Arrays → Outcome
-read-slice s a =
-    elim (leb plan-need (length s) && room a) [
-      | false ↦ record { answer = Holding.TooShort; arrays = a }
-      | true ↦ record { answer = holding (held s); arrays = arrays-held a (held s) }
-    ]
+read-slice s a = where-room s a (holding (held s)) (arrays-held a (held s))
 
 -- the same, of the slices lent to the reader
 unfoldable pub plan-into : List ℕ → List ℕ → List ℕ → List ℕ → Outcome
 plan-into plan edges speeds cells = read-slice plan (record { roads = edges; carts = speeds; cells = cells })
 
+-- the plan that is accepted, if one is
+unfoldable pub plan-of : Judged Plan → Option Plan
+plan-of (refused r) = none
+plan-of (accepted p) = some p
+
+-- the plan of the tables in a slice that holds tables, a log and nothing else: the last limits and the log are still to be judged
+unfoldable pub laid : List ℕ → Option Plan
+laid s = cond (nothing-else s (tables-in s) (log-in s)) (plan-of (read-tables (tables-in s))) none
+
+-- what is said of it, with so many reports
+unfoldable pub laying : ℕ → Option Plan → Holding
+laying n none = Holding.NoPlan
+laying n (some p) = Holding.Held (length (p .roads)) (length (p .carts)) (steps (p .paths)) n
+
+-- what is left in the arrays
+unfoldable pub arrays-laid : Arrays → Option Plan → Arrays
+arrays-laid a none = zeros a
+arrays-laid a (some p) = numbers-of a p
+
+-- that plan, read into the slices lent to the reader
+unfoldable pub laid-into : List ℕ → List ℕ → List ℕ → List ℕ → Outcome
+laid-into plan edges speeds cells =
+    let a : Arrays = record { roads = edges; carts = speeds; cells = cells } in
+    where-room plan a (laying (length (log-in plan)) (laid plan)) (arrays-laid a (laid plan))
+
 -- Names every definition of this module, for a proof that computes with them all.
 unfoldable pub open-holding : Unit {0}
-unfolding only-zeros layout holding arrays-held read-slice plan-into
+unfolding only-zeros layout holding arrays-held where-room read-slice plan-into plan-of laid laying arrays-laid laid-into
 open-holding = tt

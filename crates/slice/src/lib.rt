@@ -10,8 +10,9 @@ ghost use lib.ListN.{length, take, drop};
 ghost use Rattle.tables.specs.Reading.{numbers-of, read-into};
 ghost use Rattle.limits.specs.Limits.{paths-within};
 ghost use Rattle.book.specs.Log.{log-book, is-book};
-ghost use Rattle.slice.specs.PlanSlice.{tables-in, log-in, nothing-else, Held, held};
-ghost use Rattle.slice.specs.Holding.{holding, plan-into};
+ghost use Rattle.floor.specs.Plan.{Plan};
+ghost use Rattle.slice.specs.PlanSlice.{tables-in, log-in, nothing-else};
+ghost use Rattle.slice.specs.Holding.{laid, laying, laid-into, plan-into};
 ghost use Rattle.slice.specs.Entry.{with-entry};
 ghost use Rattle.schedule.specs.Book.{_at_};
 
@@ -100,7 +101,7 @@ fn read_texts(
     tables::read_tables(&plan[..r], carts, paths, edges, speeds, cells)
 }
 
-// Reads the plan of a slice that is laid out so: what is held, with its numbers in the arrays.
+// Reads the plan of a slice that is laid out so: what its tables say, with the numbers in the arrays.
 fn read_parts(
     plan: &[u8],
     r: usize,
@@ -114,8 +115,8 @@ fn read_parts(
     requires { ⌜ (233472 ≤ length (now plan)) × (nothing-else (now plan) (tables-in (now plan)) (log-in (now plan)) ≡ true) ⌝ }
     requires { ⌜ (r ≡ length (tables-in (now plan) .roads)) × (c ≡ length (tables-in (now plan) .carts)) × (p ≡ length (tables-in (now plan) .paths)) × (n ≡ length (log-in (now plan))) ⌝ }
     requires { ⌜ (4096 ≤ length (now edges)) × (128 ≤ length (now speeds)) × (8192 ≤ length (now cells)) ⌝ }
-    ensures answer { λ x. ⌜ x ≡ holding (held (now (plan .entry))) ⌝ }
-    ensures left { λ _. ⌜ ((h : Held) → held (now (plan .entry)) ≡ some h → numbers-of (record { roads = now (edges .entry); carts = now (speeds .entry); cells = now (cells .entry) }) (h .plan) ≡ record { roads = now (edges .exit); carts = now (speeds .exit); cells = now (cells .exit) }) ⌝ }
+    ensures answer { λ x. ⌜ x ≡ laying (length (log-in (now (plan .entry)))) (laid (now (plan .entry))) ⌝ }
+    ensures left { λ _. ⌜ ((q : Plan) → laid (now (plan .entry)) ≡ some q → numbers-of (record { roads = now (edges .entry); carts = now (speeds .entry); cells = now (cells .entry) }) q ≡ record { roads = now (edges .exit); carts = now (speeds .exit); cells = now (cells .exit) }) ⌝ }
 {
     let x = read_texts(plan, r, c, p, edges, speeds, cells);
     match x {
@@ -125,25 +126,20 @@ fn read_parts(
             roads: i,
             carts: j,
             steps: w,
-        } => {
-            if accepts_log(plan, n, cells, j, w) {
-                return Holding::Held {
-                    roads: i,
-                    carts: j,
-                    steps: w,
-                    reports: n,
-                };
-            }
-            Holding::NoPlan
-        }
+        } => Holding::Held {
+            roads: i,
+            carts: j,
+            steps: w,
+            reports: n,
+        },
     }
 }
 
-// Reads the plan that a slice holds, if it holds one, into arrays that have room.
-fn read_held(plan: &[u8], edges: &mut [u32], speeds: &mut [u32], cells: &mut [u32]) -> Holding
+// Reads the plan of a slice, if its tables give one and there is nothing else, into arrays that have room.
+fn read_found(plan: &[u8], edges: &mut [u32], speeds: &mut [u32], cells: &mut [u32]) -> Holding
     requires { ⌜ (233472 ≤ length (now plan)) × (4096 ≤ length (now edges)) × (128 ≤ length (now speeds)) × (8192 ≤ length (now cells)) ⌝ }
-    ensures answer { λ x. ⌜ x ≡ holding (held (now (plan .entry))) ⌝ }
-    ensures left { λ _. ⌜ ((h : Held) → held (now (plan .entry)) ≡ some h → numbers-of (record { roads = now (edges .entry); carts = now (speeds .entry); cells = now (cells .entry) }) (h .plan) ≡ record { roads = now (edges .exit); carts = now (speeds .exit); cells = now (cells .exit) }) ⌝ }
+    ensures answer { λ x. ⌜ x ≡ laying (length (log-in (now (plan .entry)))) (laid (now (plan .entry))) ⌝ }
+    ensures left { λ _. ⌜ ((q : Plan) → laid (now (plan .entry)) ≡ some q → numbers-of (record { roads = now (edges .entry); carts = now (speeds .entry); cells = now (cells .entry) }) q ≡ record { roads = now (edges .exit); carts = now (speeds .exit); cells = now (cells .exit) }) ⌝ }
 {
     let x = parts::find_parts(plan);
     match x {
@@ -157,12 +153,13 @@ fn read_held(plan: &[u8], edges: &mut [u32], speeds: &mut [u32], cells: &mut [u3
     }
 }
 
-// Reads the plan that a slice holds: its tables are judged again, its log is replayed, and there may be nothing else.
-pub fn read_plan(plan: &[u8], edges: &mut [u32], speeds: &mut [u32], cells: &mut [u32]) -> Holding
-    ensures answer { λ r. ⌜ r ≡ plan-into (now (plan .entry)) (now (edges .entry)) (now (speeds .entry)) (now (cells .entry)) .answer ⌝ }
-    ensures left { λ _. ⌜ now (edges .exit) ≡ plan-into (now (plan .entry)) (now (edges .entry)) (now (speeds .entry)) (now (cells .entry)) .arrays .roads ⌝ }
-    ensures left_speeds { λ _. ⌜ now (speeds .exit) ≡ plan-into (now (plan .entry)) (now (edges .entry)) (now (speeds .entry)) (now (cells .entry)) .arrays .carts ⌝ }
-    ensures left_cells { λ _. ⌜ now (cells .exit) ≡ plan-into (now (plan .entry)) (now (edges .entry)) (now (speeds .entry)) (now (cells .entry)) .arrays .cells ⌝ }
+// Reads the plan of a slice: its tables are judged again, and there may be nothing else beside a log. Its last limits, of events and bounds, and the log
+// are left to the caller, who may count by writing.
+pub fn read_laid(plan: &[u8], edges: &mut [u32], speeds: &mut [u32], cells: &mut [u32]) -> Holding
+    ensures answer { λ r. ⌜ r ≡ laid-into (now (plan .entry)) (now (edges .entry)) (now (speeds .entry)) (now (cells .entry)) .answer ⌝ }
+    ensures left { λ _. ⌜ now (edges .exit) ≡ laid-into (now (plan .entry)) (now (edges .entry)) (now (speeds .entry)) (now (cells .entry)) .arrays .roads ⌝ }
+    ensures left_speeds { λ _. ⌜ now (speeds .exit) ≡ laid-into (now (plan .entry)) (now (edges .entry)) (now (speeds .entry)) (now (cells .entry)) .arrays .carts ⌝ }
+    ensures left_cells { λ _. ⌜ now (cells .exit) ≡ laid-into (now (plan .entry)) (now (edges .entry)) (now (speeds .entry)) (now (cells .entry)) .arrays .cells ⌝ }
 {
     if plan.len() < 233_472 {
         return Holding::TooShort;
@@ -176,9 +173,40 @@ pub fn read_plan(plan: &[u8], edges: &mut [u32], speeds: &mut [u32], cells: &mut
     if cells.len() < 8192 {
         return Holding::TooShort;
     }
-    let x = read_held(plan, edges, speeds, cells);
+    let x = read_found(plan, edges, speeds, cells);
     if let Holding::NoPlan = x {
         tables::clear_all(edges, speeds, cells);
     }
     x
+}
+
+// Reads the plan that a slice holds: its last limits are judged, too, and its log is replayed.
+pub fn read_plan(plan: &[u8], edges: &mut [u32], speeds: &mut [u32], cells: &mut [u32]) -> Holding
+    ensures answer { λ r. ⌜ r ≡ plan-into (now (plan .entry)) (now (edges .entry)) (now (speeds .entry)) (now (cells .entry)) .answer ⌝ }
+    ensures left { λ _. ⌜ now (edges .exit) ≡ plan-into (now (plan .entry)) (now (edges .entry)) (now (speeds .entry)) (now (cells .entry)) .arrays .roads ⌝ }
+    ensures left_speeds { λ _. ⌜ now (speeds .exit) ≡ plan-into (now (plan .entry)) (now (edges .entry)) (now (speeds .entry)) (now (cells .entry)) .arrays .carts ⌝ }
+    ensures left_cells { λ _. ⌜ now (cells .exit) ≡ plan-into (now (plan .entry)) (now (edges .entry)) (now (speeds .entry)) (now (cells .entry)) .arrays .cells ⌝ }
+{
+    let x = read_laid(plan, edges, speeds, cells);
+    match x {
+        Holding::TooShort => Holding::TooShort,
+        Holding::NoPlan => Holding::NoPlan,
+        Holding::Held {
+            roads: i,
+            carts: j,
+            steps: w,
+            reports: n,
+        } => {
+            if accepts_log(plan, n, cells, j, w) {
+                return Holding::Held {
+                    roads: i,
+                    carts: j,
+                    steps: w,
+                    reports: n,
+                };
+            }
+            tables::clear_all(edges, speeds, cells);
+            Holding::NoPlan
+        }
+    }
 }

@@ -1,7 +1,7 @@
--- `slice::read_parts` meets its contract: the tables are refused, the limits passed or the log refused, or the plan is held. Assumes nothing.
+-- `slice::read_parts` meets its contract: the tables are refused, or they give a plan. Assumes nothing.
 use native.Mathlib.Omega.{arith}
 use borrow.Author.Needs.{needs}
-use Rattle.slice.proofs.Holds.{tables-few, log-few, parts-refused, parts-short, parts-not-held, parts-held}
+use Rattle.slice.proofs.Holds.{tables-few, parts-refused, parts-short, parts-laid}
 use Rattle.slice.proofs.read_parts.Statement.{statement}
 use Rattle.slice.proofs.read_parts.Tie as tie
 
@@ -25,11 +25,6 @@ enum-told-2 c = search needs
 enum-known-x : tie.Need-enum-known-x
 enum-known-x c = search needs
 
-accepts-log-requires : tie.Need-accepts-log-requires
-accepts-log-requires c κs =
-    let b = start (c .before .before .before .before .before .before .before .before .before .before) in
-    (b .pre .0 .0, omega (arith, b .pre .1 .0 .3, log-few (b .args .plan .now)))
-
 same-length : tie.Need-same-length
 same-length c = search needs
 
@@ -41,11 +36,10 @@ same-length-3 c = search needs
 
 returns : tie.Need-returns
 returns c =
-    let t = c .before .before .before .before .before .before .before .before .before .before .before .before in
+    let t = c .before .before .before .before .before .before .before .before in
     let b = start t in
-    parts-held (b .args .plan .now) (b .pre .0 .1) (b .args .r) (b .args .c) (b .args .p) (b .args .n) (b .pre .1 .0)
-    (b .args .edges .now) (b .args .speeds .now) (b .args .cells .now) (b .pre .1 .1) _ _ _ _ (t .read-texts .ensures)
-    _ _ _ (c .before .before .before .before .x .given .1) _ (c .before .accepts-log .ensures) (c .if1 .taken)
+    parts-refused (b .args .plan .now) (b .pre .0 .1) (b .args .r) (b .args .c) (b .args .p) (b .args .n) (b .pre .1 .0)
+    (b .args .edges .now) (b .args .speeds .now) (b .args .cells .now) (b .pre .1 .1) _ _ _ _ (t .read-texts .ensures) _ (c .enum-told .given .1)
 
 same-length-4 : tie.Need-same-length-4
 same-length-4 c = search needs
@@ -60,8 +54,8 @@ returns-2 : tie.Need-returns-2
 returns-2 c =
     let t = c .before .before .before .before .before .before .before .before in
     let b = start t in
-    parts-refused (b .args .plan .now) (b .pre .0 .1) (b .args .r) (b .args .c) (b .args .p) (b .args .n) (b .pre .1 .0)
-    (b .args .edges .now) (b .args .speeds .now) (b .args .cells .now) (b .pre .1 .1) _ _ _ _ (t .read-texts .ensures) _ (c .enum-told .given .1)
+    parts-short (b .args .plan .now) (b .pre .0 .1) (b .args .r) (b .args .c) (b .args .p) (b .args .n) (b .pre .1 .0)
+    (b .args .edges .now) (b .args .speeds .now) (b .args .cells .now) (b .pre .1 .1) _ _ _ _ (t .read-texts .ensures) (c .enum-told2 .given .1)
 
 same-length-7 : tie.Need-same-length-7
 same-length-7 c = search needs
@@ -74,27 +68,10 @@ same-length-9 c = search needs
 
 returns-3 : tie.Need-returns-3
 returns-3 c =
-    let t = c .before .before .before .before .before .before .before .before in
+    let t = c .before .before .before .before .before .before .before .before .before in
     let b = start t in
-    parts-short (b .args .plan .now) (b .pre .0 .1) (b .args .r) (b .args .c) (b .args .p) (b .args .n) (b .pre .1 .0)
-    (b .args .edges .now) (b .args .speeds .now) (b .args .cells .now) (b .pre .1 .1) _ _ _ _ (t .read-texts .ensures) (c .enum-told2 .given .1)
-
-same-length-10 : tie.Need-same-length-10
-same-length-10 c = search needs
-
-same-length-11 : tie.Need-same-length-11
-same-length-11 c = search needs
-
-same-length-12 : tie.Need-same-length-12
-same-length-12 c = search needs
-
-returns-4 : tie.Need-returns-4
-returns-4 c =
-    let t = c .before .before .before .before .before .before .before .before .before .before .before .before in
-    let b = start t in
-    parts-not-held (b .args .plan .now) (b .pre .0 .1) (b .args .r) (b .args .c) (b .args .p) (b .args .n) (b .pre .1 .0)
-    (b .args .edges .now) (b .args .speeds .now) (b .args .cells .now) (b .pre .1 .1) _ _ _ _ (t .read-texts .ensures)
-    _ _ _ (c .before .before .before .before .x .given .1) _ (c .before .accepts-log .ensures) (c .if1 .left)
+    parts-laid (b .args .plan .now) (b .pre .0 .1) (b .args .r) (b .args .c) (b .args .p) (b .args .n) (b .pre .1 .0)
+    (b .args .edges .now) (b .args .speeds .now) (b .args .cells .now) (b .pre .1 .1) _ _ _ _ (t .read-texts .ensures) _ _ _ (c .before .x .given .1)
 
 pub read-parts-spec : {M : Type 1} → statement M
 read-parts-spec =
@@ -104,7 +81,6 @@ read-parts-spec =
     enum-told
     enum-told-2
     enum-known-x
-    accepts-log-requires
     same-length
     same-length-2
     same-length-3
@@ -116,8 +92,4 @@ read-parts-spec =
     same-length-7
     same-length-8
     same-length-9
-    returns-3
-    same-length-10
-    same-length-11
-    same-length-12
-    returns-4)
+    returns-3)

@@ -1,46 +1,38 @@
--- `slice::read_plan` meets its contract, on all input. Assumes nothing.
+-- `slice::read_plan` meets its contract, on all input: what is laid out is not there, passes the limits, has a log that is refused, or is held. Assumes nothing.
 use Prim.Native.Nat.{ℕ}
-use mathlib.Core.Path.{ap, subst, _∙_}
-use mathlib.Core.Logic.{inl, inr}
-use mathlib.Core.List.{[], _∷_}
+use mathlib.Core.Path.{ap, _∙_}
 use lib.ListN.{replicate}
-use types.Run.{OneOf, miss}
-use denote.Enum.Declared.{tagOf}
-use Rattle.slice.specs.declared.Holding.{Holding}
-use Rattle.slice.proofs.Holding.{the-type}
 use borrow.Author.Needs.{needs}
-use Rattle.slice.proofs.Holds.{slice-short, array-short, plan-none, plan-held}
+use Rattle.slice.proofs.Holds.{plan-short, plan-none, slice-long, reports-few, plan-held, plan-not-held}
 use Rattle.slice.proofs.read_plan.Statement.{statement}
 use Rattle.slice.proofs.read_plan.Tie as tie
 
-returns : tie.Need-returns
-returns c =
-    let a = c .before .before .before .before .before .args in
-    slice-short (a .plan .now) (a .edges .now) (a .speeds .now) (a .cells .now) (c .if1 .taken)
+-- where the slices are lent
+abbrev start : tie.After-read-laid → tie.Start
+start r = r .before .before .before .before .before .before .before .before
 
-returns-2 : tie.Need-returns-2
-returns-2 c =
-    let a = c .before .before .before .before .before .before .args in
-    array-short (a .plan .now) (a .edges .now) (a .speeds .now) (a .cells .now) (inl (c .if2 .taken))
+-- what is laid out was read
+abbrev laid : tie.After-slice-known6 → tie.After-read-laid
+laid c = c .before .before .before .before .before .before
 
-returns-3 : tie.Need-returns-3
-returns-3 c =
-    let a = c .before .before .before .before .before .before .before .args in
-    array-short (a .plan .now) (a .edges .now) (a .speeds .now) (a .cells .now) (inr (inl (c .if3 .taken)))
-
-returns-4 : tie.Need-returns-4
-returns-4 c =
-    let a = c .before .before .before .before .before .before .before .before .args in
-    array-short (a .plan .now) (a .edges .now) (a .speeds .now) (a .cells .now) (inr (inr (c .if4 .taken)))
-
-read-held-requires : tie.Need-read-held-requires
-read-held-requires c κs = search needs
+read-laid-requires : tie.Need-read-laid-requires
+read-laid-requires c κs = search needs
 
 enum-told : tie.Need-enum-told
 enum-told c = search needs
 
-clear-all-requires : tie.Need-clear-all-requires
-clear-all-requires c κs = search needs
+enum-told-2 : tie.Need-enum-told-2
+enum-told-2 c = search needs
+
+enum-known-x : tie.Need-enum-known-x
+enum-known-x c = search needs
+
+accepts-log-requires : tie.Need-accepts-log-requires
+accepts-log-requires c κs =
+    let k = c .before .before in
+    let r = laid (k .before .before) in
+    let a = start r .args in
+    (slice-long (a .plan .now) (a .edges .now) (a .speeds .now) (a .cells .now) _ _ _ _ (r .read-laid .ensures) _ _ _ _ (k .x .given .1), reports-few (a .plan .now) (a .edges .now) (a .speeds .now) (a .cells .now) _ _ _ _ (r .read-laid .ensures) _ _ _ _ (k .x .given .1))
 
 same-length : tie.Need-same-length
 same-length c = search needs
@@ -51,19 +43,16 @@ same-length-2 c = search needs
 same-length-3 : tie.Need-same-length-3
 same-length-3 c = search needs
 
-returns-5 : tie.Need-returns-5
-returns-5 c =
-    let w = c .before .before .before .before .before .before in
-    let k = w .before .before .before .before in
-    let r = k .before .before .before .before .before .before .before .before in
-    let o = r .before .before .before .before in
-    let a = o .before .before .before .before .before .before .before .before .args in
-    let f = w .clear-all .ensures in
-    plan-none (a .plan .now) (a .edges .now) (a .speeds .now) (a .cells .now) (o .before .before .before .if1 .left) (o .before .before .if2 .left) (o .before .if3 .left) (o .if4 .left)
-    _ (r .read-held .ensures .0) (k .enum-told .given .1) _ _ _
-    (f .0 ∙ ap (λ (n : ℕ). replicate n 0) (r .read-held .kept .1 .0))
-    (f .1 .0 ∙ ap (λ (n : ℕ). replicate n 0) (r .read-held .kept .1 .1 .0))
-    (f .1 .1 ∙ ap (λ (n : ℕ). replicate n 0) (r .read-held .kept .1 .1 .1 .0))
+returns : tie.Need-returns
+returns c =
+    let g = c .before in
+    let k = g .before .before .before in
+    let r = laid (k .before .before) in
+    let a = start r .args in
+    plan-held (a .plan .now) (a .edges .now) (a .speeds .now) (a .cells .now) _ _ _ _ (r .read-laid .ensures) _ _ _ _ (k .x .given .1) _ (g .accepts-log .ensures) (c .if1 .taken)
+
+clear-all-requires : tie.Need-clear-all-requires
+clear-all-requires c κs = search needs
 
 same-length-4 : tie.Need-same-length-4
 same-length-4 c = search needs
@@ -74,31 +63,73 @@ same-length-5 c = search needs
 same-length-6 : tie.Need-same-length-6
 same-length-6 c = search needs
 
-returns-6 : tie.Need-returns-6
-returns-6 c =
-    let r = c .before .before .before .before .before .before .before in
-    let o = r .before .before .before .before in
-    let a = o .before .before .before .before .before .before .before .before .args in
-    plan-held (a .plan .now) (a .edges .now) (a .speeds .now) (a .cells .now) (o .before .before .before .if1 .left) (o .before .before .if2 .left) (o .before .if3 .left) (o .if4 .left)
-    _ _ _ _ (r .read-held .ensures)
-    (λ e. miss (0 ∷ 2 ∷ []) 1 tt (subst (λ (x : Holding). OneOf (0 ∷ 2 ∷ []) (tagOf the-type x)) e (c .match .keys2)))
+returns-2 : tie.Need-returns-2
+returns-2 c =
+    let r = laid (c .before .before) in
+    let a = start r .args in
+    plan-short (a .plan .now) (a .edges .now) (a .speeds .now) (a .cells .now) _ _ _ _ (r .read-laid .ensures) (c .enum-told .given .1)
+
+same-length-7 : tie.Need-same-length-7
+same-length-7 c = search needs
+
+same-length-8 : tie.Need-same-length-8
+same-length-8 c = search needs
+
+same-length-9 : tie.Need-same-length-9
+same-length-9 c = search needs
+
+returns-3 : tie.Need-returns-3
+returns-3 c =
+    let r = laid (c .before .before) in
+    let a = start r .args in
+    plan-none (a .plan .now) (a .edges .now) (a .speeds .now) (a .cells .now) _ _ _ _ (r .read-laid .ensures) (c .enum-told2 .given .1)
+
+same-length-10 : tie.Need-same-length-10
+same-length-10 c = search needs
+
+same-length-11 : tie.Need-same-length-11
+same-length-11 c = search needs
+
+same-length-12 : tie.Need-same-length-12
+same-length-12 c = search needs
+
+returns-4 : tie.Need-returns-4
+returns-4 c =
+    let w = c .before .before .before .before .before .before in
+    let o = w .before .before .before .before in
+    let g = o .before in
+    let k = g .before .before .before in
+    let r = laid (k .before .before) in
+    let a = start r .args in
+    let f = w .clear-all .ensures in
+    plan-not-held (a .plan .now) (a .edges .now) (a .speeds .now) (a .cells .now) _ _ _ _ (r .read-laid .ensures) _ _ _ _ (k .x .given .1) _ (g .accepts-log .ensures) (o .if1 .left) _ _ _
+    (f .0 ∙ ap (λ (n : ℕ). replicate n 0) (r .read-laid .kept .1 .0))
+    (f .1 .0 ∙ ap (λ (n : ℕ). replicate n 0) (r .read-laid .kept .1 .1 .0))
+    (f .1 .1 ∙ ap (λ (n : ℕ). replicate n 0) (r .read-laid .kept .1 .1 .1 .0))
 
 pub read-plan-spec : {M : Type 1} → statement M
 read-plan-spec =
     tie.close
     (tie.spec
-    returns
-    returns-2
-    returns-3
-    returns-4
-    read-held-requires
+    read-laid-requires
     enum-told
-    clear-all-requires
+    enum-told-2
+    enum-known-x
+    accepts-log-requires
     same-length
     same-length-2
     same-length-3
-    returns-5
+    returns
+    clear-all-requires
     same-length-4
     same-length-5
     same-length-6
-    returns-6)
+    returns-2
+    same-length-7
+    same-length-8
+    same-length-9
+    returns-3
+    same-length-10
+    same-length-11
+    same-length-12
+    returns-4)

@@ -1,9 +1,9 @@
--- `slice::read_held` meets its contract: the slice is laid out otherwise and holds nothing, or its parts are read. Assumes nothing.
+-- `slice::read_found` meets its contract: the slice is laid out otherwise and gives no plan, or its parts are read. Assumes nothing.
 use mathlib.Core.Path.{sym, _∙_}
 use borrow.Author.Needs.{needs}
-use Rattle.slice.proofs.Holds.{broken-held, parts-found}
-use Rattle.slice.proofs.read_held.Statement.{statement}
-use Rattle.slice.proofs.read_held.Tie as tie
+use Rattle.slice.proofs.Holds.{broken-laid, parts-found}
+use Rattle.slice.proofs.read_found.Statement.{statement}
+use Rattle.slice.proofs.read_found.Tie as tie
 
 find-parts-requires : tie.Need-find-parts-requires
 find-parts-requires c κs = search needs
@@ -25,7 +25,7 @@ read-parts-requires c κs =
 returns : tie.Need-returns
 returns c =
     let f = c .before .before in
-    broken-held (f .before .before .before .before .before .args .plan .now) _ _ (sym (c .enum-told .given .1) ∙ f .find-parts .ensures)
+    broken-laid (f .before .before .before .before .before .args .plan .now) _ _ (sym (c .enum-told .given .1) ∙ f .find-parts .ensures)
 
 same-length : tie.Need-same-length
 same-length c = search needs
@@ -39,8 +39,8 @@ same-length-3 c = search needs
 returns-2 : tie.Need-returns-2
 returns-2 c = search needs
 
-pub read-held-spec : {M : Type 1} → statement M
-read-held-spec =
+pub read-found-spec : {M : Type 1} → statement M
+read-found-spec =
     tie.close
     (tie.spec
     find-parts-requires
