@@ -31,10 +31,11 @@ use Rattle.book.proofs.ByPaths.{some-step, next-by-paths, added-by-paths, log-b
 use Rattle.slice.specs.declared.Holding.{Holding}
 use Rattle.slice.specs.PlanSlice.{plan-need, until-zero, tables-in, log-in, Held, nothing-else, held-by, held}
 use Rattle.slice.specs.Holding.{holding, arrays-held, Outcome, where-room, read-slice, plan-into}
-use Rattle.slice.specs.HeldPlan.{log-of, Holds}
+use Rattle.slice.specs.HeldPlan.{log-of, Holds, Lays}
 use Rattle.slice.proofs.Slice.{held-says}
 use Rattle.slice.proofs.Laid.{text-front, part-short, entries-count}
-use Rattle.slice.proofs.Holds.{nothing-told}
+use Rattle.slice.proofs.Holds.{nothing-told, held-laid}
+use Rattle.slice.proofs.LaidPlan.{paths-laid, steps-laid, reports-laid, book-laid, case-of, blank}
 
 -- ---- the plan in arrays
 
@@ -48,6 +49,23 @@ module _ (s edges speeds cells : List ℕ) (roads carts w reports : ℕ) (h : Ho
   abbrev pub ts : Tables
   ts = h .plan-held .tables
 
+  -- it is laid out in the slice
+  lays : Lays s edges speeds cells roads carts w reports
+  lays =
+      let (l, log) = held-laid s (h .plan-held) (h .of-slice) in
+      record {
+        plan-laid = p;
+        of-slice = l;
+        long = h .long;
+        roads-are = h .roads-are;
+        carts-are = h .carts-are;
+        steps-are = h .steps-are;
+        reports-are = h .reports-are ∙ ap length log;
+        edges-are = h .edges-are;
+        speeds-are = h .speeds-are;
+        cells-are = h .cells-are;
+      }
+
   -- its tables are accepted
   pub accepted-there : judge ts ≡ accepted p
   accepted-there = held-says s (h .plan-held) (h .of-slice) .1
@@ -58,20 +76,18 @@ module _ (s edges speeds cells : List ℕ) (roads carts w reports : ℕ) (h : Ho
   pub sound : Sound p
   sound = accepted-sound ts p read-there
 
-  even : Even (p .paths)
-  even = accepted-even ts p read-there
-
   -- the paths in the array are the plan's
   pub paths-there : paths-in carts w cells ≡ p .paths
-  paths-there =
-      ap (λ (n : ℕ). paths-in n w cells) (h .carts-are ∙ sym (sound .path-each))
-      ∙ ap (λ (n : ℕ). paths-in (length (p .paths)) n cells) (h .steps-are)
-      ∙ ap (paths-in (length (p .paths)) (steps (p .paths))) (h .cells-are)
-      ∙ even-held 8192 (p .paths) even
+  unfolding lays
+  paths-there = paths-laid s edges speeds cells roads carts w reports lays
 
   -- it has steps
   pub some-steps : 1 ≤ w
-  some-steps = omega (arith, some-step p sound, h .steps-are)
+  some-steps = steps-laid s edges speeds cells roads carts w reports lays
+
+  -- and no more reports than there is room for
+  pub reports-few : reports ≤ 4096
+  reports-few = reports-laid s edges speeds cells roads carts w reports lays
 
   -- it keeps the limits
   pub limits-there : limits-kept p ≡ true
@@ -82,22 +98,6 @@ module _ (s edges speeds cells : List ℕ) (roads carts w reports : ℕ) (h : Ho
 
 -- ---- the log
 
--- a held plan's log is the one in the slice
-held-log : (s : List ℕ) (h : Held) → held s ≡ some h → h .log ≡ log-in s
-unfolding held held-by
-held-log s h e = by (judge (tables-in s)) e
-  where
-    at : (p : Plan) (o : Option Book) (t : Bool)
-        → elim o [ none ↦ none | some b ↦ elim t [ true ↦ some (record { tables = tables-in s; log = log-in s; plan = p; book = b }) | false ↦ none ] ] ≡ some h
-        → h .log ≡ log-in s
-    at p none t q = absurd (Option·none-ne-some _ q)
-    at p (some b) true q = ap (λ (x : Held). x .log) (sym (Option·some-injective _ _ q))
-    at p (some b) false q = absurd (Option·none-ne-some _ q)
-
-    by : (j : Judged Plan) → held-by s (tables-in s) (log-in s) j ≡ some h → h .log ≡ log-in s
-    by (refused r) q = absurd (Option·none-ne-some _ q)
-    by (accepted p) q = at p (replay p (first-book p) (log-in s)) (nothing-else s (tables-in s) (log-in s)) q
-
 module _ (s edges speeds cells : List ℕ) (roads carts w reports : ℕ) (h : Holds s edges speeds cells roads carts w reports) where
   abbrev its : Plan
   its = p s edges speeds cells roads carts w reports h
@@ -105,45 +105,15 @@ module _ (s edges speeds cells : List ℕ) (roads carts w reports : ℕ) (h : Ho
   abbrev its-book : Book
   its-book = b s edges speeds cells roads carts w reports h
 
-  -- the reports in the slice are the log's
-  log-there : entries (take reports (drop 196_608 s)) (drop 200_704 s) ≡ h .plan-held .log
-  unfolding log-in
-  log-there =
-      let part : List ℕ = take 4096 (drop 196_608 s) in
-      let same : h .plan-held .log ≡ log-in s = held-log s (h .plan-held) (h .of-slice) in
-      let count : reports ≡ length (until-zero part) = h .reports-are ∙ ap length same ∙ entries-count (until-zero part) (drop 200_704 s) in
-      let few : length (until-zero part) ≤ 4096 = part-short 4096 (drop 196_608 s) in
-      ap (λ (x : List ℕ). entries x (drop 200_704 s))
-      (ap (λ (n : ℕ). take n (drop 196_608 s)) count ∙ sym (take-take (length (until-zero part)) 4096 (drop 196_608 s) few) ∙ text-front part)
-      ∙ sym same
-
-  -- and no more than there is room for
-  pub reports-few : reports ≤ 4096
-  unfolding log-in
-  reports-few =
-      let part : List ℕ = take 4096 (drop 196_608 s) in
-      let same : h .plan-held .log ≡ log-in s = held-log s (h .plan-held) (h .of-slice) in
-      omega (arith, h .reports-are ∙ ap length same ∙ entries-count (until-zero part) (drop 200_704 s), part-short 4096 (drop 196_608 s))
-
-  -- its book is the plan's
+  -- the book of its log is the plan's
   pub book-there : log-book carts w cells (take reports (drop 196_608 s)) (drop 200_704 s) ≡ some its-book
+  unfolding lays
   book-there =
-      let ts′ : Tables = ts s edges speeds cells roads carts w reports h in
-      let says : judge ts′ ≡ accepted its = accepted-there s edges speeds cells roads carts w reports h in
-      ap (λ (n : ℕ). log-book n w cells (take reports (drop 196_608 s)) (drop 200_704 s)) (h .carts-are)
-      ∙ ap (λ (n : ℕ). log-book (length (its .carts)) n cells (take reports (drop 196_608 s)) (drop 200_704 s)) (h .steps-are)
-      ∙ ap (λ (x : List ℕ). log-book (length (its .carts)) (steps (its .paths)) x (take reports (drop 196_608 s)) (drop 200_704 s)) (h .cells-are)
-      ∙ log-book-is ts′ its (judged ts′ its says .0) (limits-there s edges speeds cells roads carts w reports h) 8192 (lit≤ tt) (take reports (drop 196_608 s)) (drop 200_704 s)
-      ∙ ap (replay its (first-book its)) log-there
+      book-laid s edges speeds cells roads carts w reports (lays s edges speeds cells roads carts w reports h) (limits-there s edges speeds cells roads carts w reports h)
+      ∙ ap (replay its (first-book its)) (sym (held-laid s (h .plan-held) (h .of-slice) .1))
       ∙ held-says s (h .plan-held) (h .of-slice) .2
 
-  -- what it adds is what the book adds to the plan
-  pub added-there : added-bounds (of-paths (paths-in carts w cells)) its-book ≡ added-bounds its its-book
-  added-there =
-      ap (λ (x : List (List ℕ)). added-bounds (of-paths x) its-book) (paths-there s edges speeds cells roads carts w reports h)
-      ∙ sym (added-by-paths its (sym (sound s edges speeds cells roads carts w reports h .path-each)) its-book)
-
-  -- and so is what it says of a report
+  -- and what it says of a report is what the plan's says
   pub checked-there : (r : Report) → checked (of-paths (paths-in carts w cells)) (log-of s reports cells carts w) r ≡ checked its (some its-book) r
   unfolding log-of checked
   checked-there r =
@@ -153,16 +123,6 @@ module _ (s edges speeds cells : List ℕ) (roads carts w reports : ℕ) (h : Ho
       ∙ sym (next-by-paths its (sym (sound s edges speeds cells roads carts w reports h .path-each)) its-book r))
 
 -- ---- what the reader says
-
--- which case it is
-abbrev pub case-of : Holding → ℕ
-case-of Holding.TooShort = 0
-case-of Holding.NoPlan = 1
-case-of (Holding.Held a c w n) = 2
-
--- arrays of zeros, as code lends them to the reader
-abbrev blank : Arrays
-blank = record { roads = replicate 4096 0; carts = replicate 128 0; cells = replicate 8192 0 }
 
 module _ (s : List ℕ) (long : plan-need ≤ length s) where
   -- the slice is long enough, and so are the arrays

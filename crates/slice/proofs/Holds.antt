@@ -146,7 +146,7 @@ tables-found s r c p er ec ep e v k x edges speeds cells i =
     (subst (λ (y : List ℕ). Into y (take c (drop 65_536 s)) (take p (drop 131_072 s)) e v k x edges speeds cells) (part-text 65_536 r s er) i))
 
 -- the log in the slice
-log-found : (s : List ℕ) (n : ℕ) → n ≡ length (log-in s) → entries (take n (drop 196_608 s)) (drop 200_704 s) ≡ log-in s
+pub log-found : (s : List ℕ) (n : ℕ) → n ≡ length (log-in s) → entries (take n (drop 196_608 s)) (drop 200_704 s) ≡ log-in s
 unfolding log-in
 log-found s n e =
     ap (λ (cs : List ℕ). entries cs (drop 200_704 s))
@@ -263,7 +263,7 @@ unfolding holding tells
 nothing-told none e = refl
 nothing-told (some h) e = absurd (true≢false (sym (ap tells e)))
 
-none-laid : (n : ℕ) (o : Option Plan) → Holding.NoPlan ≡ laying n o → o ≡ none
+pub none-laid : (n : ℕ) (o : Option Plan) → Holding.NoPlan ≡ laying n o → o ≡ none
 unfolding laying tells
 none-laid n none e = refl
 none-laid n (some p) e = absurd (true≢false (sym (ap tells e)))
@@ -275,7 +275,7 @@ short Holding.NoPlan = false
 short (Holding.Held a b w n) = false
 
 -- it is not said of what is laid out
-laid-long : (n : ℕ) (o : Option Plan) → ¬ (Holding.TooShort ≡ laying n o)
+pub laid-long : (n : ℕ) (o : Option Plan) → ¬ (Holding.TooShort ≡ laying n o)
 unfolding laying short
 laid-long n none e = true≢false (ap short e)
 laid-long n (some p) e = true≢false (ap short e)
@@ -391,7 +391,7 @@ module _ (s e v k : List ℕ) where
 -- ---- from what is laid out to what is held
 
 -- where the tables give no plan none is held
-unlaid-none : (s : List ℕ) → laid s ≡ none → held s ≡ none
+pub unlaid-none : (s : List ℕ) → laid s ≡ none → held s ≡ none
 unfolding laid plan-of held judge
 unlaid-none s e = by (nothing-else s (tables-in s) (log-in s)) refl (read-tables (tables-in s)) refl e
   where
@@ -430,6 +430,24 @@ module _ (s : List ℕ) (p : Plan) (l : laid s ≡ some p) where
     pub is-held : (b : Book) → replay p (first-book p) (log-in s) ≡ some b → held s ≡ some (record { tables = tables-in s; log = log-in s; plan = p; book = b })
     unfolding held
     is-held b e = ap (held-by s (tables-in s) (log-in s)) accepted-laid ∙ held-where s (tables-in s) (log-in s) p b e (laid-says s p l .0)
+
+-- what is held is the plan laid out, with the log beside it
+pub held-laid : (s : List ℕ) (h : Held) → held s ≡ some h → (laid s ≡ some (h .plan)) × (h .log ≡ log-in s)
+held-laid s h e = by (laid s) refl
+  where
+    at : (p : Plan) → laid s ≡ some p → limits-kept p ≡ true → (o : Option Book) → replay p (first-book p) (log-in s) ≡ o → (laid s ≡ some (h .plan)) × (h .log ≡ log-in s)
+    at p l k none q = absurd (Option·none-ne-some _ (sym (no-log s p l k q) ∙ e))
+    at p l k (some b) q =
+        let same : record { tables = tables-in s; log = log-in s; plan = p; book = b } ≡ h = Option·some-injective _ _ (sym (is-held s p l k b q) ∙ e) in
+        (l ∙ ap (λ (x : Held). some (x .plan)) same, ap (λ (x : Held). x .log) (sym same))
+
+    within : (p : Plan) → laid s ≡ some p → (t : Bool) → limits-kept p ≡ t → (laid s ≡ some (h .plan)) × (h .log ≡ log-in s)
+    within p l false q = absurd (Option·none-ne-some _ (sym (over s p l q) ∙ e))
+    within p l true q = at p l q (replay p (first-book p) (log-in s)) refl
+
+    by : (o : Option Plan) → laid s ≡ o → (laid s ≡ some (h .plan)) × (h .log ≡ log-in s)
+    by none l = absurd (Option·none-ne-some _ (sym (unlaid-none s l) ∙ e))
+    by (some p) l = within p l (limits-kept p) refl
 
 -- ---- the reader of what is held
 

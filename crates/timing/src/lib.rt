@@ -4,15 +4,17 @@ use bounds::Network;
 use slice::Holding;
 ghost use mathlib.Core.Path.{_≡_};
 ghost use mathlib.Core.List.{flatMap};
-ghost use Prim.Native.Nat.{_*_};
+ghost use mathlib.Core.Option.{some};
+ghost use Prim.Native.Nat.{_*_, _≤_};
+ghost use lib.ListN.{length, replicate};
 ghost use lib.Seq.{sets};
 ghost use Rattle.network.specs.BoundArrays.{bound-ends, bound-range};
 ghost use Rattle.tables.specs.Arrays.{paths-in};
 ghost use Rattle.limits.specs.Limits.{of-paths};
 ghost use Rattle.book.specs.Log.{added-of, added-answer};
-ghost use Rattle.slice.specs.PlanSlice.{held};
-ghost use Rattle.slice.specs.HeldPlan.{log-of, Holds};
-ghost use Rattle.timing.specs.Bounding.{bounding-fits, bounding, held-bounds, bounding-answer, bounding-written};
+ghost use Rattle.slice.specs.PlanSlice.{Held, held};
+ghost use Rattle.slice.specs.HeldPlan.{log-of, Lays};
+ghost use Rattle.timing.specs.Bounding.{bounding-fits, bounding, bounding-answer, bounds-left, bounding-left};
 
 // How many events there are, how many bounds of the plan's own, and how many in all.
 pub enum Bounding {
@@ -55,7 +57,8 @@ fn write_log(
     )
 }
 
-// Writes the bounds of a plan in arrays and of a log in a slice, the second behind the first.
+// Writes the bounds of a plan in arrays and of a log in a slice, the second behind the first. How many bounds there are is known when they are written, so
+// that the last limits are judged then.
 fn write_both(
     plan: &[u8],
     edges: &[u32],
@@ -68,10 +71,10 @@ fn write_both(
     ends: &mut [u16],
     ranges: &mut [u64],
 ) -> Bounding
-    requires { ⌜ Holds (now plan) (now edges) (now speeds) (now cells) roads carts steps reports ⌝ }
+    requires { ⌜ Lays (now plan) (now edges) (now speeds) (now cells) roads carts steps reports ⌝ }
     ensures answer { λ r. ⌜ r ≡ bounding (held (now (plan .entry))) ⌝ }
-    ensures left { λ _. ⌜ now (ends .exit) ≡ sets (now (ends .entry)) 0 (flatMap bound-ends (held-bounds (held (now (plan .entry))))) ⌝ }
-    ensures left_ranges { λ _. ⌜ now (ranges .exit) ≡ sets (now (ranges .entry)) 0 (flatMap bound-range (held-bounds (held (now (plan .entry))))) ⌝ }
+    ensures left { λ _. ⌜ ((h : Held) → held (now (plan .entry)) ≡ some h → now (ends .exit) ≡ bounds-left bound-ends (some h) (now (ends .entry))) ⌝ }
+    ensures left_ranges { λ _. ⌜ ((h : Held) → held (now (plan .entry)) ≡ some h → now (ranges .exit) ≡ bounds-left bound-range (some h) (now (ranges .entry))) ⌝ }
 {
     let x = bounds::write_bounds(edges, speeds, cells, roads, carts, steps, ends, ranges);
     match x {
@@ -80,6 +83,9 @@ fn write_both(
             events: n,
             bounds: own,
         } => {
+            if 8192 < own {
+                return Bounding::NoPlan;
+            }
             let y = write_log(plan, reports, cells, carts, steps, own, ends, ranges);
             match y {
                 Added::NoBook => Bounding::NoPlan,
@@ -93,19 +99,17 @@ fn write_both(
     }
 }
 
-// Writes the bounds of the plan that a slice holds, and those that its log adds, to the front of two arrays, as many as there is room for.
-pub fn write_held(plan: &[u8], ends: &mut [u16], ranges: &mut [u64]) -> Bounding
-    ensures answer { λ r. ⌜ r ≡ bounding-answer (bounding-fits (now (plan .entry))) (held (now (plan .entry))) ⌝ }
-    ensures left { λ _. ⌜ now (ends .exit) ≡ sets (now (ends .entry)) 0 (flatMap bound-ends (bounding-written (bounding-fits (now (plan .entry))) (held (now (plan .entry))))) ⌝ }
-    ensures left_ranges { λ _. ⌜ now (ranges .exit) ≡ sets (now (ranges .entry)) 0 (flatMap bound-range (bounding-written (bounding-fits (now (plan .entry))) (held (now (plan .entry))))) ⌝ }
+// The same for the plan that the tables of a slice give.
+fn write_laid(plan: &[u8], ends: &mut [u16], ranges: &mut [u64]) -> Bounding
+    requires { ⌜ 233472 ≤ length (now plan) ⌝ }
+    ensures answer { λ r. ⌜ r ≡ bounding (held (now (plan .entry))) ⌝ }
+    ensures left { λ _. ⌜ ((h : Held) → held (now (plan .entry)) ≡ some h → now (ends .exit) ≡ bounds-left bound-ends (some h) (now (ends .entry))) ⌝ }
+    ensures left_ranges { λ _. ⌜ ((h : Held) → held (now (plan .entry)) ≡ some h → now (ranges .exit) ≡ bounds-left bound-range (some h) (now (ranges .entry))) ⌝ }
 {
-    if plan.len() < 233_472 {
-        return Bounding::TooShort;
-    }
     let mut edges = [0u32; 4096];
     let mut speeds = [0u32; 128];
     let mut cells = [0u32; 8192];
-    let x = slice::read_plan(plan, &mut edges, &mut speeds, &mut cells);
+    let x = slice::read_laid(plan, &mut edges, &mut speeds, &mut cells);
     match x {
         Holding::TooShort => Bounding::TooShort,
         Holding::NoPlan => Bounding::NoPlan,
@@ -116,4 +120,44 @@ pub fn write_held(plan: &[u8], ends: &mut [u16], ranges: &mut [u64]) -> Bounding
             reports: n,
         } => write_both(plan, &edges, &speeds, &cells, r, c, s, n, ends, ranges),
     }
+}
+
+// Zeros in every place of an array of ends.
+fn clear_ends(ends: &mut [u16])
+    ensures { λ _. ⌜ now (ends .exit) ≡ replicate (length (now (ends .entry))) 0 ⌝ }
+{
+    let mut i = 0;
+    while i < ends.len() {
+        ends[i] = 0;
+        i += 1;
+    }
+}
+
+// Zeros in every place of an array of ranges.
+fn clear_ranges(ranges: &mut [u64])
+    ensures { λ _. ⌜ now (ranges .exit) ≡ replicate (length (now (ranges .entry))) 0 ⌝ }
+{
+    let mut i = 0;
+    while i < ranges.len() {
+        ranges[i] = 0;
+        i += 1;
+    }
+}
+
+// Writes the bounds of the plan that a slice holds, and those that its log adds, to the front of two arrays, as many as there is room for. Where none is
+// held the arrays are cleared, since bounds may have been written before that was known.
+pub fn write_held(plan: &[u8], ends: &mut [u16], ranges: &mut [u64]) -> Bounding
+    ensures answer { λ r. ⌜ r ≡ bounding-answer (bounding-fits (now (plan .entry))) (held (now (plan .entry))) ⌝ }
+    ensures left { λ _. ⌜ now (ends .exit) ≡ bounding-left bound-ends (bounding-fits (now (plan .entry))) (held (now (plan .entry))) (now (ends .entry)) ⌝ }
+    ensures left_ranges { λ _. ⌜ now (ranges .exit) ≡ bounding-left bound-range (bounding-fits (now (plan .entry))) (held (now (plan .entry))) (now (ranges .entry)) ⌝ }
+{
+    if plan.len() < 233_472 {
+        return Bounding::TooShort;
+    }
+    let x = write_laid(plan, ends, ranges);
+    if let Bounding::NoPlan = x {
+        clear_ends(ends);
+        clear_ranges(ranges);
+    }
+    x
 }

@@ -1,9 +1,17 @@
--- `timing::write_both` meets its contract: the plan's own bounds are written, and behind them those that its log adds. Assumes nothing.
+-- `timing::write_both` meets its contract: the plan's own bounds are written and counted, and behind them those that its log adds. Assumes nothing.
 use native.Mathlib.Omega.{arith}
 use borrow.Author.Needs.{needs}
-use Rattle.timing.proofs.Written.{own-fit, some-book, more-few, both-written}
+use Rattle.timing.proofs.Written.{own-unfit, own-over, no-book, more-few, both-written}
 use Rattle.timing.proofs.write_both.Statement.{statement}
 use Rattle.timing.proofs.write_both.Tie as tie
+
+-- where the slices are lent
+abbrev start : tie.After-write-bounds → tie.Start
+start w = w .before .before .before .before .before .before .before .before .before
+
+-- the plan's own bounds were written
+abbrev own-written : tie.After-known-told → tie.After-write-bounds
+own-written k = k .before .before .before .before .before .before .before
 
 write-bounds-requires : tie.Need-write-bounds-requires
 write-bounds-requires c κs = search needs
@@ -14,6 +22,20 @@ enum-told c = search needs
 enum-known-x : tie.Need-enum-known-x
 enum-known-x c = search needs
 
+same-length : tie.Need-same-length
+same-length c = search needs
+
+same-length-2 : tie.Need-same-length-2
+same-length-2 c = search needs
+
+returns : tie.Need-returns
+returns c =
+    let k = c .before in
+    let w = own-written k in
+    let a = start w .args in
+    own-over (a .plan .now) (a .edges .now) (a .speeds .now) (a .cells .now) (a .roads) (a .carts) (a .steps) (a .reports) (start w .pre) (a .ends .now) (a .ranges .now)
+    (w .write-bounds .result) _ _ (w .write-bounds .ensures .0) (w .write-bounds .ensures .1 .0) (w .write-bounds .ensures .1 .1) _ _ (k .before .x .given .1) (c .if1 .taken) _ _
+
 write-log-requires : tie.Need-write-log-requires
 write-log-requires c κs = search needs
 
@@ -23,32 +45,18 @@ enum-told-2 c = search needs
 enum-known-y : tie.Need-enum-known-y
 enum-known-y c = search needs
 
-add-t26 : tie.Need-add-t26
-add-t26 c =
+add-t27 : tie.Need-add-t27
+add-t27 c =
     let g = c .before .before .before .before .before .before .before in
-    let k = g .before .before .before in
-    let w = k .before .before .before .before .before .before .before in
-    let s = w .before .before .before .before .before .before .before .before .before in
-    let a = s .args in
+    let o = g .before .before .before in
+    let k = o .before in
+    let w = own-written k in
+    let a = start w .args in
     omega (
       arith,
-      more-few (a .plan .now) (a .edges .now) (a .speeds .now) (a .cells .now) (a .roads) (a .carts) (a .steps) (a .reports) (s .pre) (a .ends .now) (a .ranges .now)
-          (w .write-bounds .result) _ _ (w .write-bounds .ensures .0) (w .write-bounds .ensures .1 .0) (w .write-bounds .ensures .1 .1) _ _ (k .before .x .given .1) (g .write-log .result) _ _ (g .write-log .ensures .0) (g .write-log .ensures .1 .0) (g .write-log .ensures .1 .1) _ (c .before .y .given .1),
+      more-few (a .plan .now) (a .edges .now) (a .speeds .now) (a .cells .now) (a .roads) (a .carts) (a .steps) (a .reports) (start w .pre) (a .ends .now) (a .ranges .now)
+          (w .write-bounds .result) _ _ (w .write-bounds .ensures .0) (w .write-bounds .ensures .1 .0) (w .write-bounds .ensures .1 .1) _ _ (k .before .x .given .1) (o .if1 .left) (g .write-log .result) _ _ (g .write-log .ensures .0) (g .write-log .ensures .1 .0) (g .write-log .ensures .1 .1) _ (c .before .y .given .1),
     )
-
-same-length : tie.Need-same-length
-same-length c = search needs
-
-same-length-2 : tie.Need-same-length-2
-same-length-2 c = search needs
-
-returns : tie.Need-returns
-returns c =
-    let w = c .before .before .before .before .before .before in
-    let s = w .before .before .before .before .before .before .before .before .before in
-    let a = s .args in
-    absurd (own-fit (a .plan .now) (a .edges .now) (a .speeds .now) (a .cells .now) (a .roads) (a .carts) (a .steps) (a .reports) (s .pre) (a .ends .now) (a .ranges .now)
-    (w .write-bounds .result) _ _ (w .write-bounds .ensures .0) (w .write-bounds .ensures .1 .0) (w .write-bounds .ensures .1 .1) (c .enum-told .given .1))
 
 same-length-3 : tie.Need-same-length-3
 same-length-3 c = search needs
@@ -58,13 +66,10 @@ same-length-4 c = search needs
 
 returns-2 : tie.Need-returns-2
 returns-2 c =
-    let g = c .before .before .before .before .before .before in
-    let k = g .before .before .before in
-    let w = k .before .before .before .before .before .before .before in
-    let s = w .before .before .before .before .before .before .before .before .before in
-    let a = s .args in
-    absurd (some-book (a .plan .now) (a .edges .now) (a .speeds .now) (a .cells .now) (a .roads) (a .carts) (a .steps) (a .reports) (s .pre) (a .ends .now) (a .ranges .now)
-    (w .write-bounds .result) _ _ (w .write-bounds .ensures .0) (w .write-bounds .ensures .1 .0) (w .write-bounds .ensures .1 .1) _ _ (k .before .x .given .1) (g .write-log .result) _ _ (g .write-log .ensures .0) (g .write-log .ensures .1 .0) (g .write-log .ensures .1 .1) (c .enum-told2 .given .1))
+    let w = c .before .before .before .before .before .before in
+    let a = start w .args in
+    own-unfit (a .plan .now) (a .edges .now) (a .speeds .now) (a .cells .now) (a .roads) (a .carts) (a .steps) (a .reports) (start w .pre) (a .ends .now) (a .ranges .now)
+    (w .write-bounds .result) _ _ (w .write-bounds .ensures .0) (w .write-bounds .ensures .1 .0) (w .write-bounds .ensures .1 .1) (c .enum-told .given .1) _ _
 
 same-length-5 : tie.Need-same-length-5
 same-length-5 c = search needs
@@ -74,13 +79,29 @@ same-length-6 c = search needs
 
 returns-3 : tie.Need-returns-3
 returns-3 c =
+    let g = c .before .before .before .before .before .before in
+    let o = g .before .before .before in
+    let k = o .before in
+    let w = own-written k in
+    let a = start w .args in
+    no-book (a .plan .now) (a .edges .now) (a .speeds .now) (a .cells .now) (a .roads) (a .carts) (a .steps) (a .reports) (start w .pre) (a .ends .now) (a .ranges .now)
+    (w .write-bounds .result) _ _ (w .write-bounds .ensures .0) (w .write-bounds .ensures .1 .0) (w .write-bounds .ensures .1 .1) _ _ (k .before .x .given .1) (o .if1 .left) (g .write-log .result) _ _ (g .write-log .ensures .0) (g .write-log .ensures .1 .0) (g .write-log .ensures .1 .1) (c .enum-told2 .given .1) _ _
+
+same-length-7 : tie.Need-same-length-7
+same-length-7 c = search needs
+
+same-length-8 : tie.Need-same-length-8
+same-length-8 c = search needs
+
+returns-4 : tie.Need-returns-4
+returns-4 c =
     let g = c .before .before .before .before .before .before .before in
-    let k = g .before .before .before in
-    let w = k .before .before .before .before .before .before .before in
-    let s = w .before .before .before .before .before .before .before .before .before in
-    let a = s .args in
-    both-written (a .plan .now) (a .edges .now) (a .speeds .now) (a .cells .now) (a .roads) (a .carts) (a .steps) (a .reports) (s .pre) (a .ends .now) (a .ranges .now)
-    (w .write-bounds .result) _ _ (w .write-bounds .ensures .0) (w .write-bounds .ensures .1 .0) (w .write-bounds .ensures .1 .1) _ _ (k .before .x .given .1) (g .write-log .result) _ _ (g .write-log .ensures .0) (g .write-log .ensures .1 .0) (g .write-log .ensures .1 .1) _ (c .before .y .given .1)
+    let o = g .before .before .before in
+    let k = o .before in
+    let w = own-written k in
+    let a = start w .args in
+    both-written (a .plan .now) (a .edges .now) (a .speeds .now) (a .cells .now) (a .roads) (a .carts) (a .steps) (a .reports) (start w .pre) (a .ends .now) (a .ranges .now)
+    (w .write-bounds .result) _ _ (w .write-bounds .ensures .0) (w .write-bounds .ensures .1 .0) (w .write-bounds .ensures .1 .1) _ _ (k .before .x .given .1) (o .if1 .left) (g .write-log .result) _ _ (g .write-log .ensures .0) (g .write-log .ensures .1 .0) (g .write-log .ensures .1 .1) _ (c .before .y .given .1)
 
 pub write-both-spec : {M : Type 1} → statement M
 write-both-spec =
@@ -89,16 +110,19 @@ write-both-spec =
     write-bounds-requires
     enum-told
     enum-known-x
-    write-log-requires
-    enum-told-2
-    enum-known-y
-    add-t26
     same-length
     same-length-2
     returns
+    write-log-requires
+    enum-told-2
+    enum-known-y
+    add-t27
     same-length-3
     same-length-4
     returns-2
     same-length-5
     same-length-6
-    returns-3)
+    returns-3
+    same-length-7
+    same-length-8
+    returns-4)

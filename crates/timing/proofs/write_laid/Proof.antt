@@ -1,0 +1,91 @@
+-- `timing::write_laid` meets its contract: the tables give no plan, or its bounds are written. Assumes nothing.
+use borrow.Author.Needs.{needs}
+use Rattle.slice.proofs.Holds.{unlaid-none}
+use Rattle.slice.proofs.LaidPlan.{never-short, not-laid, laid-there}
+use Rattle.timing.proofs.Written.{none-held}
+use Rattle.timing.proofs.write_laid.Statement.{statement}
+use Rattle.timing.proofs.write_laid.Tie as tie
+
+-- where the slices are lent
+abbrev start : tie.After-read-laid → tie.Start
+start r = r .before .before .before .before .before .before .before
+
+slice-aggregate-read-laid : tie.Need-slice-aggregate-read-laid
+slice-aggregate-read-laid c = search needs
+
+slice-aggregate-read-laid-2 : tie.Need-slice-aggregate-read-laid-2
+slice-aggregate-read-laid-2 c = search needs
+
+slice-aggregate-read-laid-3 : tie.Need-slice-aggregate-read-laid-3
+slice-aggregate-read-laid-3 c = search needs
+
+read-laid-requires : tie.Need-read-laid-requires
+read-laid-requires c κs = search needs
+
+enum-told : tie.Need-enum-told
+enum-told c = search needs
+
+enum-told-2 : tie.Need-enum-told-2
+enum-told-2 c = search needs
+
+enum-known-x : tie.Need-enum-known-x
+enum-known-x c = search needs
+
+slice-aggregate-write-both : tie.Need-slice-aggregate-write-both
+slice-aggregate-write-both c = search needs
+
+slice-aggregate-write-both-2 : tie.Need-slice-aggregate-write-both-2
+slice-aggregate-write-both-2 c = search needs
+
+slice-aggregate-write-both-3 : tie.Need-slice-aggregate-write-both-3
+slice-aggregate-write-both-3 c = search needs
+
+write-both-requires : tie.Need-write-both-requires
+write-both-requires c κs =
+    let k = c .before .before .before .before .before .before in
+    let r = k .before .before .before .before .before in
+    let b = start r in
+    laid-there (b .args .plan .now) (b .pre) (r .read-laid .result) (r .read-laid .ensures .0) _ _ _ (r .read-laid .ensures .1 .0) (r .read-laid .ensures .1 .1 .0) (r .read-laid .ensures .1 .1 .1)
+    _ _ _ _ (k .x .given .1)
+
+returns : tie.Need-returns
+returns c =
+    let r = c .before .before .before .before .before in
+    let b = start r in
+    absurd (never-short (b .args .plan .now) (b .pre) (r .read-laid .result) (r .read-laid .ensures .0) (c .enum-told .given .1))
+
+returns-2 : tie.Need-returns-2
+returns-2 c =
+    let r = c .before .before .before .before .before in
+    let b = start r in
+    none-held _ _ _ _ _ (unlaid-none (b .args .plan .now) (not-laid (b .args .plan .now) (b .pre) (r .read-laid .result) (r .read-laid .ensures .0) (c .enum-told2 .given .1)))
+
+same-length : tie.Need-same-length
+same-length c = search needs
+
+same-length-2 : tie.Need-same-length-2
+same-length-2 c = search needs
+
+returns-3 : tie.Need-returns-3
+returns-3 c = search needs
+
+pub write-laid-spec : {M : Type 1} → statement M
+write-laid-spec =
+    tie.close
+    (tie.spec
+    slice-aggregate-read-laid
+    slice-aggregate-read-laid-2
+    slice-aggregate-read-laid-3
+    read-laid-requires
+    enum-told
+    enum-told-2
+    enum-known-x
+    slice-aggregate-write-both
+    slice-aggregate-write-both-2
+    slice-aggregate-write-both-3
+    write-both-requires
+    returns
+    returns-2
+    same-length
+    same-length-2
+    returns-3)
