@@ -21,7 +21,7 @@ use Rattle.slice.specs.PlanSlice.{plan-need, Held, held}
 use Rattle.passes.specs.declared.Solved.{Solved}
 use Rattle.passes.specs.Solving.{Solving}
 use Rattle.timing.specs.declared.Bounding.{Bounding}
-use Rattle.timing.specs.Bounding.{bounding-fits, bounding, held-bounds, bounding-answer, bounding-written}
+use Rattle.timing.specs.Bounding.{bounding-fits, bounding, bounding-answer, bounds-left, bounding-left}
 use Rattle.hegtalim.specs.declared.Timed.{Timed}
 use Rattle.hegtalim.specs.Outcomes.{meets-needs, Timetabled, too-short, no-plan, timed, no-times}
 use Rattle.hegtalim.specs.Working.{Worked, done, no-room}
@@ -93,7 +93,7 @@ module _ (s : List ℕ) (l : Lent) (met : meets-needs s l ≡ true) (x : Boundin
 
   -- a plan, and its bounds in two arrays
   module _ (ends₀ ranges₀ ends ranges : List ℕ)
-      (ends-are : ends ≡ sets ends₀ 0 (flatMap bound-ends (bounding-written (bounding-fits s) (held s)))) (ranges-are : ranges ≡ sets ranges₀ 0 (flatMap bound-range (bounding-written (bounding-fits s) (held s))))
+      (ends-are : ends ≡ bounding-left bound-ends (bounding-fits s) (held s) ends₀) (ranges-are : ranges ≡ bounding-left bound-range (bounding-fits s) (held s) ranges₀)
       (n own m : ℕ) (q : x ≡ Bounding.Bounds n own m) where
     -- what is known of it
     record There : Type 0 where
@@ -106,7 +106,7 @@ module _ (s : List ℕ) (l : Lent) (met : meets-needs s l ≡ true) (x : Boundin
       ranges-there : ranges ≡ sets ranges₀ 0 (flatMap bound-range (all-bounds (plan-held .plan) (plan-held .book)))
 
     there : There
-    unfolding bounding bounding-written held-bounds
+    unfolding bounding bounds-left bounding-left
     there = by (held s) refl (sym q ∙ said)
       where
         by : (o : Option Held) → held s ≡ o → Bounding.Bounds n own m ≡ bounding o → There
@@ -118,8 +118,8 @@ module _ (s : List ℕ) (l : Lent) (met : meets-needs s l ≡ true) (x : Boundin
               events-are = ap (λ (y : Bounding). elim y [ Bounding.TooShort ↦ 0 | Bounding.NoPlan ↦ 0 | Bounding.Bounds a b c ↦ a ]) z;
               own-are = ap (λ (y : Bounding). elim y [ Bounding.TooShort ↦ 0 | Bounding.NoPlan ↦ 0 | Bounding.Bounds a b c ↦ b ]) z;
               all-are = ap (λ (y : Bounding). elim y [ Bounding.TooShort ↦ 0 | Bounding.NoPlan ↦ 0 | Bounding.Bounds a b c ↦ c ]) z;
-              ends-there = ends-are ∙ ap (λ (b : Bool). sets ends₀ 0 (flatMap bound-ends (bounding-written b (held s)))) fits ∙ ap (λ (o : Option Held). sets ends₀ 0 (flatMap bound-ends (held-bounds o))) e;
-              ranges-there = ranges-are ∙ ap (λ (b : Bool). sets ranges₀ 0 (flatMap bound-range (bounding-written b (held s)))) fits ∙ ap (λ (o : Option Held). sets ranges₀ 0 (flatMap bound-range (held-bounds o))) e;
+              ends-there = ends-are ∙ ap (λ (b : Bool). bounding-left bound-ends b (held s) ends₀) fits ∙ ap (λ (o : Option Held). bounds-left bound-ends o ends₀) e;
+              ranges-there = ranges-are ∙ ap (λ (b : Bool). bounding-left bound-range b (held s) ranges₀) fits ∙ ap (λ (o : Option Held). bounds-left bound-range o ranges₀) e;
             }
 
     -- what is found, and said of it
