@@ -377,7 +377,41 @@ fn search(
     }
 }
 
-// The same, with working memory of its own for few events, which takes less time to fill.
+// The same, with working memory of its own for the fewest events, which takes the least time to fill.
+fn find_fewest(
+    ends: &[u16],
+    ranges: &[u64],
+    own: usize,
+    bounds: usize,
+    events: usize,
+    times: &mut [u8],
+    numbers: &mut [u8],
+    directions: &mut [u8],
+) -> Solved
+    requires { ⌜ (network-fits bounds events (now ends) (now ranges) ≡ true) × (events ≤ 256) ⌝ }
+    requires { ⌜ (32768 ≤ length (now times)) × (8192 ≤ length (now numbers)) × (4096 ≤ length (now directions)) ⌝ }
+    ensures { λ r. ⌜ Solves own events (bounds-in bounds (now (ends .entry)) (now (ranges .entry)))
+        (record { times = now (times .entry); chain-bounds = now (numbers .entry); chain-directions = now (directions .entry) })
+        r
+        (record { times = now (times .exit); chain-bounds = now (numbers .exit); chain-directions = now (directions .exit) }) ⌝ }
+{
+    let mut values = [-1_152_921_504_606_846_976i64; 256];
+    let mut parents = [0u16; 256];
+    values[0] = 0;
+    search(
+        ends,
+        ranges,
+        own,
+        bounds,
+        &mut values[..events],
+        &mut parents[..events],
+        times,
+        numbers,
+        directions,
+    )
+}
+
+// The same for few events, whose working memory takes less time to fill than that for many.
 fn find_few(
     ends: &[u16],
     ranges: &[u64],
@@ -445,7 +479,7 @@ fn find_many(
     )
 }
 
-// Either of them, by the number of events.
+// One of them, by the number of events.
 fn find(
     ends: &[u16],
     ranges: &[u64],
@@ -463,6 +497,18 @@ fn find(
         r
         (record { times = now (times .exit); chain-bounds = now (numbers .exit); chain-directions = now (directions .exit) }) ⌝ }
 {
+    if events <= 256 {
+        return find_fewest(
+            ends,
+            ranges,
+            own,
+            bounds,
+            events,
+            times,
+            numbers,
+            directions,
+        );
+    }
     if events <= 1024 {
         return find_few(
             ends,
