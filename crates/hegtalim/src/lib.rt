@@ -224,7 +224,20 @@ fn time_in(
     }
 }
 
-// The same in short arrays, which take little time to clear; many bounds have no room there.
+// The same in the shortest arrays, which take the least time to clear; more than 512 bounds have no room there.
+fn time_tiny(plan: &[u8], times: &mut [u8], numbers: &mut [u8], directions: &mut [u8]) -> Timed
+    requires { ⌜ (233472 ≤ length (now plan)) × (32768 ≤ length (now times)) × (8192 ≤ length (now numbers)) × (4096 ≤ length (now directions)) ⌝ }
+    ensures { λ r. ⌜ Worked 1024 1024 (now (plan .entry))
+        (record { times = now (times .entry); chain-bounds = now (numbers .entry); chain-directions = now (directions .entry) })
+        r
+        (record { times = now (times .exit); chain-bounds = now (numbers .exit); chain-directions = now (directions .exit) }) ⌝ }
+{
+    let mut ends = [0u16; 1024];
+    let mut ranges = [0u64; 1024];
+    time_in(plan, &mut ends, &mut ranges, times, numbers, directions)
+}
+
+// The same in short arrays, which take little time to clear; more than 2,048 bounds have no room there.
 fn time_small(plan: &[u8], times: &mut [u8], numbers: &mut [u8], directions: &mut [u8]) -> Timed
     requires { ⌜ (233472 ≤ length (now plan)) × (32768 ≤ length (now times)) × (8192 ≤ length (now numbers)) × (4096 ≤ length (now directions)) ⌝ }
     ensures { λ r. ⌜ Worked 4096 4096 (now (plan .entry))
@@ -263,7 +276,7 @@ fn time_large(plan: &[u8], times: &mut [u8], numbers: &mut [u8], directions: &mu
     time_in(plan, &mut ends, &mut ranges, times, numbers, directions)
 }
 
-// The same for a table of paths of less than 4,096 bytes, by its length.
+// The same for a table of paths of at most 4,096 bytes, in one of the three shorter pairs of arrays, by its length.
 fn time_short(plan: &[u8], times: &mut [u8], numbers: &mut [u8], directions: &mut [u8]) -> Timed
     requires { ⌜ (233472 ≤ length (now plan)) × (32768 ≤ length (now times)) × (8192 ≤ length (now numbers)) × (4096 ≤ length (now directions)) ⌝ }
     ensures { λ r. ⌜ Worked 12288 12288 (now (plan .entry))
@@ -273,6 +286,9 @@ fn time_short(plan: &[u8], times: &mut [u8], numbers: &mut [u8], directions: &mu
 {
     if plan[133_120] != 0 {
         return time_middle(plan, times, numbers, directions);
+    }
+    if plan[131_584] == 0 {
+        return time_tiny(plan, times, numbers, directions);
     }
     time_small(plan, times, numbers, directions)
 }

@@ -1,4 +1,4 @@
--- `hegtalim::time_short` meets its contract: either arrays are too short for any plan. Assumes nothing.
+-- `hegtalim::time_short` meets its contract: whichever arrays it takes, they have not room for every plan. Assumes nothing.
 use native.Mathlib.Omega.{arith}
 use borrow.Author.Needs.{needs}
 use Rattle.hegtalim.proofs.TimedPlans.{short-worked}
@@ -23,8 +23,11 @@ same-length-3 c = search needs
 returns : tie.Need-returns
 returns c = search needs
 
-time-small-requires : tie.Need-time-small-requires
-time-small-requires c κs = search needs
+shared-slice-read-if2 : tie.Need-shared-slice-read-if2
+shared-slice-read-if2 c = search needs
+
+time-tiny-requires : tie.Need-time-tiny-requires
+time-tiny-requires c κs = search needs
 
 same-length-4 : tie.Need-same-length-4
 same-length-4 c = search needs
@@ -38,7 +41,25 @@ same-length-6 c = search needs
 returns-2 : tie.Need-returns-2
 returns-2 c =
     let t = c .before .before .before .before .before .before in
-    let a = t .before .before .before .before .before .before .before .before .before .before .args in
+    let a = t .before .before .before .before .before .before .before .before .before .before .before .before .args in
+    short-worked 1024 1024 (a .plan .now) (record { times = a .times .now; chain-bounds = a .numbers .now; chain-directions = a .directions .now }) 12288 12288 (omega arith) (t .time-tiny .result) _ (t .time-tiny .ensures)
+
+time-small-requires : tie.Need-time-small-requires
+time-small-requires c κs = search needs
+
+same-length-7 : tie.Need-same-length-7
+same-length-7 c = search needs
+
+same-length-8 : tie.Need-same-length-8
+same-length-8 c = search needs
+
+same-length-9 : tie.Need-same-length-9
+same-length-9 c = search needs
+
+returns-3 : tie.Need-returns-3
+returns-3 c =
+    let t = c .before .before .before .before .before .before in
+    let a = t .before .before .before .before .before .before .before .before .before .before .before .before .args in
     short-worked 4096 4096 (a .plan .now) (record { times = a .times .now; chain-bounds = a .numbers .now; chain-directions = a .directions .now }) 12288 12288 (omega arith) (t .time-small .result) _ (t .time-small .ensures)
 
 pub time-short-spec : {M : Type 1} → statement M
@@ -51,8 +72,14 @@ time-short-spec =
     same-length-2
     same-length-3
     returns
-    time-small-requires
+    shared-slice-read-if2
+    time-tiny-requires
     same-length-4
     same-length-5
     same-length-6
-    returns-2)
+    returns-2
+    time-small-requires
+    same-length-7
+    same-length-8
+    same-length-9
+    returns-3)
