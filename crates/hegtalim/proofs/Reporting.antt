@@ -22,7 +22,8 @@ use Rattle.slice.specs.HeldPlan.{log-of, Holds}
 use Rattle.slice.proofs.Slice.{slice-at-least, judged-fit, replayed-fits, held-says}
 use Rattle.slice.proofs.Laid.{rest-of}
 use Rattle.slice.proofs.Entries.{entry-added}
-use Rattle.slice.proofs.HeldPlan.{sound, checked-there, case-of, no-plan, held-there, short-slice, long-slice}
+use Rattle.slice.proofs.LaidPlan.{case-of}
+use Rattle.slice.proofs.HeldPlan.{sound, checked-there, no-plan, held-there, short-slice, long-slice}
 use Rattle.hegtalim.specs.declared.Reported.{Reported}
 use Rattle.hegtalim.specs.Answers.{plain, reported-answer, c-number}
 use Rattle.hegtalim.specs.Outcomes.{Reporting, book-answer, report-held, report}

@@ -224,29 +224,29 @@ fn time_in(
     }
 }
 
-// The same in the shortest arrays, which take the least time to clear; more than 512 bounds have no room there.
+// The same in the shortest arrays, which take the least time to clear; more than 768 bounds have no room there.
 fn time_tiny(plan: &[u8], times: &mut [u8], numbers: &mut [u8], directions: &mut [u8]) -> Timed
     requires { ⌜ (233472 ≤ length (now plan)) × (32768 ≤ length (now times)) × (8192 ≤ length (now numbers)) × (4096 ≤ length (now directions)) ⌝ }
-    ensures { λ r. ⌜ Worked 1024 1024 (now (plan .entry))
+    ensures { λ r. ⌜ Worked 1536 1536 (now (plan .entry))
         (record { times = now (times .entry); chain-bounds = now (numbers .entry); chain-directions = now (directions .entry) })
         r
         (record { times = now (times .exit); chain-bounds = now (numbers .exit); chain-directions = now (directions .exit) }) ⌝ }
 {
-    let mut ends = [0u16; 1024];
-    let mut ranges = [0u64; 1024];
+    let mut ends = [0u16; 1536];
+    let mut ranges = [0u64; 1536];
     time_in(plan, &mut ends, &mut ranges, times, numbers, directions)
 }
 
-// The same in short arrays, which take little time to clear; more than 2,048 bounds have no room there.
+// The same in short arrays, which take little time to clear; more than 2,560 bounds have no room there.
 fn time_small(plan: &[u8], times: &mut [u8], numbers: &mut [u8], directions: &mut [u8]) -> Timed
     requires { ⌜ (233472 ≤ length (now plan)) × (32768 ≤ length (now times)) × (8192 ≤ length (now numbers)) × (4096 ≤ length (now directions)) ⌝ }
-    ensures { λ r. ⌜ Worked 4096 4096 (now (plan .entry))
+    ensures { λ r. ⌜ Worked 5120 5120 (now (plan .entry))
         (record { times = now (times .entry); chain-bounds = now (numbers .entry); chain-directions = now (directions .entry) })
         r
         (record { times = now (times .exit); chain-bounds = now (numbers .exit); chain-directions = now (directions .exit) }) ⌝ }
 {
-    let mut ends = [0u16; 4096];
-    let mut ranges = [0u64; 4096];
+    let mut ends = [0u16; 5120];
+    let mut ranges = [0u64; 5120];
     time_in(plan, &mut ends, &mut ranges, times, numbers, directions)
 }
 
@@ -276,7 +276,36 @@ fn time_large(plan: &[u8], times: &mut [u8], numbers: &mut [u8], directions: &mu
     time_in(plan, &mut ends, &mut ranges, times, numbers, directions)
 }
 
-// The same for a table of paths of at most 4,096 bytes, in one of the three shorter pairs of arrays, by its length.
+// How many commas there are in the first bytes of the table of paths in a slice.
+fn commas(plan: &[u8], bytes: usize) -> u32
+    requires { ⌜ (bytes ≤ 4096) × (233472 ≤ length (now plan)) ⌝ }
+{
+    let mut n: u32 = 0;
+    let mut i: usize = 0;
+    while i < bytes {
+        if plan[131_072 + i] == 44 {
+            n += 1;
+        }
+        i += 1;
+    }
+    n
+}
+
+// How many there are in a table of paths of at most 4,096 bytes, behind which stand zeros. No plan has more moves than that.
+fn most_moves(plan: &[u8]) -> u32
+    requires { ⌜ 233472 ≤ length (now plan) ⌝ }
+{
+    if plan[131_584] == 0 {
+        return commas(plan, 512);
+    }
+    if plan[133_120] == 0 {
+        return commas(plan, 2048);
+    }
+    commas(plan, 4096)
+}
+
+// The same for a table of paths of at most 4,096 bytes, in one of the three shorter pairs of arrays: a move takes six bounds, three of them added, and more
+// than two order bounds besides have room there. Many moves are not tried.
 fn time_short(plan: &[u8], times: &mut [u8], numbers: &mut [u8], directions: &mut [u8]) -> Timed
     requires { ⌜ (233472 ≤ length (now plan)) × (32768 ≤ length (now times)) × (8192 ≤ length (now numbers)) × (4096 ≤ length (now directions)) ⌝ }
     ensures { λ r. ⌜ Worked 12288 12288 (now (plan .entry))
@@ -284,13 +313,17 @@ fn time_short(plan: &[u8], times: &mut [u8], numbers: &mut [u8], directions: &mu
         r
         (record { times = now (times .exit); chain-bounds = now (numbers .exit); chain-directions = now (directions .exit) }) ⌝ }
 {
-    if plan[133_120] != 0 {
+    let n = most_moves(plan);
+    if 700 < n {
+        return Timed::TooShort;
+    }
+    if 300 < n {
         return time_middle(plan, times, numbers, directions);
     }
-    if plan[131_584] == 0 {
-        return time_tiny(plan, times, numbers, directions);
+    if 80 < n {
+        return time_small(plan, times, numbers, directions);
     }
-    time_small(plan, times, numbers, directions)
+    time_tiny(plan, times, numbers, directions)
 }
 
 // The times of the plan that a slice holds, or a chain. Shorter arrays are tried first where the table of paths is short.
