@@ -72,16 +72,17 @@ inline Plan with_late_end(size_t moves, const Cart &first_cart, const Cart &seco
     return plan;
 }
 
-/* carts behind each other around a ring of twice as many cells, each with so many moves: many order bounds from a short table of paths */
-inline Plan around(size_t carts, size_t moves, uint64_t first) {
+/* carts behind each other around a ring, so many cells apart, each with so many moves: many order bounds from a short table of paths */
+inline Plan around(size_t carts, size_t apart, size_t moves, uint64_t first) {
     Plan plan;
-    for (uint64_t cell = 0; cell < 2 * carts; cell++)
-        plan.roads.push_back(metre(first + cell, first + (cell + 1) % (2 * carts)));
+    size_t cells = apart * carts;
+    for (uint64_t cell = 0; cell < cells; cell++)
+        plan.roads.push_back(metre(first + cell, first + (cell + 1) % cells));
     for (size_t cart = 0; cart < carts; cart++) {
         plan.carts.push_back({quarter_metre, std::nullopt});
         plan.paths.emplace_back();
         for (size_t step = 0; step <= moves; step++)
-            plan.paths.back().push_back(first + (2 * cart + step) % (2 * carts));
+            plan.paths.back().push_back(first + (apart * cart + step) % cells);
     }
     return plan;
 }
@@ -133,10 +134,12 @@ inline void add_counts(std::vector<Known> &known) {
         Outcome{true, 3007, 3008, 1503, {{3000, 5999520}, {3001, 6000520}, {3006, 11999041}}});
     add("late on nearly all of a long way", with_late_end(1020, {quarter_metre, quarter_metre / 2}, {6251, std::nullopt}), {},
         Outcome{true, 3067, 3068, 2942, {{3060, 7998721}, {3061, 7999721}, {3066, 15997443}}});
-    /* each of 40 cells is visited by 10 carts, which makes 45 order bounds, or by 15, which makes 105: more bounds than tables of paths of 1,100 and of 2,400
-       bytes let one expect */
-    add("2,980 bounds from a short table of paths", around(20, 19, 0), {}, Outcome{true, 1162, 2980, 58, {{1161, 76000}}});
-    add("5,980 bounds from a longer one", around(20, 29, 100), {}, Outcome{true, 1762, 5980, 88, {{1761, 116000}}});
+    /* each of 40 cells is visited by 10 carts, which makes 45 order bounds, or by 15, which makes 105; or all of 8 or of 14 carts go on at once, each to the
+       cell before it, which makes 49 or 195 at every cell: mostly more bounds than 80, 294 and 580 moves let one expect */
+    add("648 bounds from 80 moves", around(8, 1, 10, 0), {}, Outcome{true, 250, 648, 31, {{249, 40000}}});
+    add("3,640 bounds from 294 moves", around(14, 1, 21, 0), {}, Outcome{true, 898, 3640, 64, {{897, 84000}}});
+    add("2,980 bounds from 380 moves", around(20, 2, 19, 0), {}, Outcome{true, 1162, 2980, 58, {{1161, 76000}}});
+    add("5,980 bounds from 580 moves", around(20, 2, 29, 100), {}, Outcome{true, 1762, 5980, 88, {{1761, 116000}}});
 }
 
 inline void add_sizes(std::vector<Known> &known) {
@@ -196,12 +199,23 @@ inline Changes no_zero(size_t from, size_t count) {
     return changes;
 }
 
-/* plan slices whose parts have no zero behind what they hold */
+/* the slice that a load of these tables would leave, if it took them */
+inline Changes all_of(const Plan &plan) {
+    Changes changes;
+    Bytes bytes = slice_of(write_tables(plan), {}, plan_need);
+    for (size_t i = 0; i < bytes.size(); i++)
+        changes.push_back({i, bytes[i]});
+    return changes;
+}
+
+/* plan slices whose parts have no zero behind what they hold, and plan slices with tables that keep the last limits or pass them */
 inline void add_slices(std::vector<Known> &known) {
     Case filled{one_path("7"), {}, {no_zero(0, plan_need), no_zero(log_carts, most_events), no_zero(log_times, 8 * most_events)}, 0};
     for (size_t table = 0; table < 3; table++)
         filled.changes.push_back(no_zero(table * most_bytes, most_bytes));
     known.push_back({"a plan slice without a zero", filled, {}, {}, {}});
+    Case written{one_path("7"), {}, {all_of(with_bounds(8192)), all_of(with_bounds(8193)), all_of(apart({454, 454, 456}, 457)), all_of(apart({682, 682}, 683))}, 0};
+    known.push_back({"tables at the last limits written by another hand", written, {}, {}, {}});
 }
 
 inline std::vector<Known> at_limits() {
