@@ -5,35 +5,30 @@ use mathlib.Core.Path.{_≡_, refl, ap, sym, _∙_}
 use mathlib.Core.Logic.{⊎-elim}
 use mathlib.Core.Bool.{Bool, true, false, _&&_}
 use mathlib.Core.List.{List}
-use mathlib.Core.Option.{Option, none, some, Option·none-ne-some, Option·some-injective}
-use lib.Dec.{leb, lit≤}
+use mathlib.Core.Option.{Option, none, some}
+use lib.Dec.{leb}
 use lib.ListN.{length, take, drop, replicate}
-use lib.Seq.{take-take}
 use borrow.Author.Tests.{le-leb, lt-leb}
 use Rattle.laws.proofs.Tests.{below-or-not}
-use Rattle.floor.specs.Refusal.{Judged, refused, accepted}
+use Rattle.floor.specs.Refusal.{accepted}
 use Rattle.floor.specs.Plan.{Plan}
-use Rattle.floor.specs.Paths.{steps}
 use Rattle.floor.specs.Tables.{Tables, read-tables}
-use Rattle.floor.proofs.Accepted.{Sound, accepted-sound, Even, accepted-even}
+use Rattle.floor.proofs.Accepted.{Sound, accepted-sound}
 use Rattle.tables.specs.Arrays.{paths-in}
 use Rattle.tables.specs.Reading.{Arrays, room, numbers-of}
-use Rattle.tables.proofs.PathTurns.{even-held}
 use Rattle.network.specs.Events.{event-count}
 use Rattle.network.specs.Bounds.{bounds}
 use Rattle.network.specs.Judge.{judge}
 use Rattle.network.proofs.Judged.{judged}
 use Rattle.limits.specs.Limits.{of-paths, limits-kept}
 use Rattle.schedule.specs.Book.{Report, Book, first-book, has-next, in-time, replay}
-use Rattle.schedule.specs.Added.{added-bounds}
-use Rattle.book.specs.Log.{entries, log-book, checked}
-use Rattle.book.proofs.ByPaths.{some-step, next-by-paths, added-by-paths, log-book-is}
+use Rattle.book.specs.Log.{log-book, checked}
+use Rattle.book.proofs.ByPaths.{next-by-paths}
 use Rattle.slice.specs.declared.Holding.{Holding}
-use Rattle.slice.specs.PlanSlice.{plan-need, until-zero, tables-in, log-in, Held, nothing-else, held-by, held}
+use Rattle.slice.specs.PlanSlice.{plan-need, Held, held}
 use Rattle.slice.specs.Holding.{holding, arrays-held, Outcome, where-room, read-slice, plan-into}
 use Rattle.slice.specs.HeldPlan.{log-of, Holds, Lays}
 use Rattle.slice.proofs.Slice.{held-says}
-use Rattle.slice.proofs.Laid.{text-front, part-short, entries-count}
 use Rattle.slice.proofs.Holds.{nothing-told, held-laid}
 use Rattle.slice.proofs.LaidPlan.{paths-laid, steps-laid, reports-laid, book-laid, case-of, blank}
 

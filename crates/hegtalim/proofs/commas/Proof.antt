@@ -1,6 +1,5 @@
 -- `hegtalim::commas` meets its contract: it reads what is there, and counts no more than it reads. Assumes nothing.
 use Prim.Native.Nat.{_-_, _≤_}
-use native.Mathlib.Omega.{arith}
 use mathlib.Core.Logic.{⊎-elim}
 use borrow.Author.Needs.{needs}
 use Rattle.hegtalim.proofs.commas.Statement.{statement}
