@@ -23,8 +23,9 @@ static const char *const explanation =
     "untimed and then as often as fills 1 ms.\n"
     "whole:   hegtalim_timetable, right after another.\n"
     "judging: hegtalim_report(plan, length, 65, 0), right after a timetable. No plan has a cart 65, and refusals come in the order 14,\n"
-    "         10, 11: the call judges the whole plan slice as a timetable does, is refused with 11 and changes nothing.\n"
-    "engine:  whole less judging in the same repetition, which is the network built, the times found and written.\n"
+    "         10, 11: the call judges the whole plan slice, is refused with 11 and changes nothing. It counts order bounds, where a\n"
+    "         timetable writes them and takes their number from that.\n"
+    "engine:  whole less judging in the same repetition: the network built, the times found and written, less what a report counts.\n"
     "LEMON:   BellmanFord::processNextRound on a StaticDigraph built beforehand, until nothing changes. Its rounds are the passes.\n"
     "Boost:   bellman_ford_shortest_paths on a compressed_sparse_row_graph built beforehand. It gives no pass number.\n"
     "A ratio is the first time over the second, with the name of the faster one behind it.\n";

@@ -26,8 +26,8 @@ class Slices {
                                   chain_directions.data(), chain_directions.size());
     }
 
-    /* Judging alone: a report of a cart that no plan has. The order of refusals is 14, 10, 11, so the whole plan slice is judged as in a timetable before the
-       report is refused with 11, and nothing is changed. */
+    /* Judging alone: a report of a cart that no plan has. The order of refusals is 14, 10, 11, so the whole plan slice is judged before the report is refused
+       with 11, and nothing is changed. The order bounds are counted, which a timetable does by writing them. */
     uint64_t judge() { return hegtalim_report(plan.data(), plan.size(), HEGTALIM_MOST_CARTS + 1, 0); }
 
     bool unchanged() const { return plan == after_load; }
