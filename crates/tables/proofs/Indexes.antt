@@ -10,7 +10,7 @@ use mathlib.Core.Bool.{Bool, true, false, _&&_, _||_, cond}
 use mathlib.Core.List.{List, [], _∷_, flatMap}
 use mathlib.Core.Option.{none, some}
 use lib.Dec.{eqb}
-use lib.ListN.{length, drop, getD, set, replicate, length-set, getD-replicate}
+use lib.ListN.{length, drop, getD, set, replicate, length-set}
 use lib.Seq.{sets, getD-drop, getD-set-same, getD-set-other}
 use borrow.Author.Tests.{eq-eqb, eqb-true, eqb-false}
 use Rattle.floor.specs.declared.Refusal.{Refusal}
@@ -183,11 +183,22 @@ module _ (s heads nexts : List ℕ) (n : ℕ) (k : Indexed n s heads nexts) (a b
 
 -- ---- linking
 
+-- zeros, and nothing behind them
+zeros-at : (n i : ℕ) → _≡_ {A = ℕ} (getD (replicate n 0) i 0) 0
+zeros-at zero i = refl
+zeros-at (suc n) zero = refl
+zeros-at (suc n) (suc i) = zeros-at n i
+
 -- no road is linked yet
-pub none-indexed : (s heads nexts : List ℕ) → heads ≡ replicate 1024 0 → Indexed 0 s heads nexts
+pub none-indexed : (n m : ℕ) (s heads nexts : List ℕ) → heads ≡ replicate n 0 → nexts ≡ replicate m 0 → Indexed 0 s heads nexts
 unfolding last-in
-none-indexed s heads nexts e =
-    record { heads-are = λ b h. ap (λ (x : List ℕ). getD x b 0) e ∙ getD-replicate 1024 b 0 0 h; nexts-are = λ j h. absurd (omega arith) }
+none-indexed n m s heads nexts e f =
+    record {
+      heads-are = λ b h. ap (λ (x : List ℕ). getD x b 0) e ∙ zeros-at n b;
+      heads-end = λ b h. ap (λ (x : List ℕ). getD x b 0) e ∙ zeros-at n b;
+      nexts-are = λ j h. absurd (omega arith);
+      nexts-end = λ j h. ap (λ (x : List ℕ). getD x j 0) f ∙ zeros-at m j;
+    }
 
 -- the index of n roads is that of any array that begins with them
 pub same-indexed : (n : ℕ) (s t heads nexts : List ℕ) → ((i : ℕ) → i < n → bucket-at t i ≡ bucket-at s i) → Indexed n s heads nexts → Indexed n t heads nexts
@@ -196,6 +207,8 @@ same-indexed n s t heads nexts h k =
       heads-are = λ b l. k .heads-are b l ∙ sym (last-same s t b n h);
       nexts-are =
           λ j l. k .nexts-are j l ∙ sym (last-same s t (bucket-at s j) j (λ i m. h i (omega arith))) ∙ ap (λ (m : ℕ). last-in t m j) (sym (h j l));
+      heads-end = k .heads-end;
+      nexts-end = k .nexts-end;
     }
 
 -- one more, after those that are
@@ -235,7 +248,12 @@ module _ (s heads nexts : List ℕ) (n : ℕ) (k : Indexed n s heads nexts) (r :
   pub one-indexed : r < 1024 → r < length heads → n < length nexts → Indexed (n + 1) s (set heads r (n + 1)) (set nexts n (getD heads r 0))
   one-indexed small wide room =
       subst (λ (m : ℕ). Indexed m s (set heads r m) (set nexts n (getD heads r 0))) (sym (add-one n))
-      (record { heads-are = head-of wide; nexts-are = next-of small room })
+      (record {
+        heads-are = head-of wide;
+        heads-end = λ b h. getD-set-other heads r b (suc n) 0 (λ q. omega arith) ∙ k .heads-end b h;
+        nexts-are = next-of small room;
+        nexts-end = λ j h. getD-set-other nexts n j (getD heads r 0) 0 (λ q. omega arith) ∙ k .nexts-end j (omega arith);
+      })
 
 -- ---- a record
 

@@ -4,11 +4,11 @@ use native.Mathlib.Omega.{arith}
 use mathlib.Core.Path.{_≡_, refl, ap, sym, _∙_, subst}
 use mathlib.Core.List.{List, [], _∷_, flatMap}
 use mathlib.Core.Bool.{Bool, true, false, true≢false, _&&_, and-false}
-use mathlib.Core.Logic.{_⊎_, inl, inr}
+use mathlib.Core.Logic.{_≢_, _⊎_, inl, inr}
 use mathlib.Core.Option.{Option, none, some, Option·some-injective, Option·some-ne-none, Option·none-ne-some}
-use lib.Dec.{leb}
+use lib.Dec.{leb, eqb}
 use lib.ListN.{length, replicate, length-append, length-replicate}
-use borrow.Author.Tests.{le-leb, lt-leb}
+use borrow.Author.Tests.{le-leb, lt-leb, eq-eqb, ne-eqb}
 use Rattle.csv.specs.Text.{bytes}
 use Rattle.csv.specs.Records.{records}
 use Rattle.words.specs.Words.{padded}
@@ -23,9 +23,11 @@ use Rattle.floor.specs.Carts.{read-carts}
 use Rattle.floor.specs.Paths.{read-paths, steps, off-road, first-same-cell, first-exchange}
 use Rattle.floor.specs.Tables.{Tables, read-tables}
 use Rattle.tables.specs.Arrays.{road-numbers, cart-numbers, path-cells}
-use Rattle.tables.specs.Reading.{apart, read-apart, Arrays, room, Outcome, read-answer, zeros, numbers-of, arrays-judged, reading, read-into}
+use Rattle.tables.specs.Index.{Indexed}
+use Rattle.tables.specs.Reading.{apart, read-apart, Arrays, room, Outcome, read-answer, zeros, numbers-of, arrays-judged, reading, read-into, roads-read, index-room, indexed-into}
 use Rattle.floor.proofs.Judging.{refused-not-accepted, accepted-same, bind-accepted, none-found-accepted, goes-on, ends, kept-in-order}
 use Rattle.tables.proofs.RoadRecords.{road-fits}
+use Rattle.tables.proofs.Indexes.{none-indexed}
 
 -- "1,024 roads": no more are taken
 pub few-roads : (b : List ℕ) (ds : List Road) → read-roads b ≡ accepted ds → length ds ≤ 1024
@@ -100,32 +102,36 @@ module _ (ts : Tables) where
       pub all-read : (ps : List (List ℕ)) → read-apart rs (length cs) (ts .paths) ≡ accepted ps → read-tables ts ≡ accepted (plan-of rs cs ps)
       all-read ps e = tables-are ∙ goes-on (read-apart rs (length cs) (ts .paths)) _ ps e
 
--- the answer, and each array where there is a plan
-abbrev pub EachEnd : Judged Plan → ℕ → ℕ → ℕ → Reading → List ℕ → List ℕ → List ℕ → Type 0
-EachEnd j a b c r edges speeds cells =
+-- the answer, and each array and the index where there is a plan
+abbrev pub EachEnd : Judged Plan → ℕ → ℕ → ℕ → Reading → List ℕ → List ℕ → List ℕ → List ℕ → List ℕ → Type 0
+EachEnd j a b c r edges speeds cells heads nexts =
     (r ≡ read-answer j)
     × (((p : Plan) → j ≡ accepted p → edges ≡ padded a (flatMap road-numbers (p .roads)))
-    × (((p : Plan) → j ≡ accepted p → speeds ≡ padded b (flatMap cart-numbers (p .carts))) × ((p : Plan) → j ≡ accepted p → cells ≡ padded c (path-cells (p .paths)))))
+    × (((p : Plan) → j ≡ accepted p → speeds ≡ padded b (flatMap cart-numbers (p .carts)))
+    × (((p : Plan) → j ≡ accepted p → cells ≡ padded c (path-cells (p .paths))) × ((p : Plan) → j ≡ accepted p → Indexed (length (p .roads)) edges heads nexts))))
 
 -- of a refusal
-pub each-refused : (j : Judged Plan) (a b c : ℕ) (edges speeds cells : List ℕ) (r : Refusal) → j ≡ refused r → EachEnd j a b c (Reading.Refused r) edges speeds cells
+pub each-refused : (j : Judged Plan) (a b c : ℕ) (edges speeds cells heads nexts : List ℕ) (r : Refusal) → j ≡ refused r
+    → EachEnd j a b c (Reading.Refused r) edges speeds cells heads nexts
 unfolding read-answer
-each-refused j a b c edges speeds cells r e = (
-  sym (ap read-answer e),
-  (λ p f. absurd (refused-not-accepted r p (sym e ∙ f)), (λ p f. absurd (refused-not-accepted r p (sym e ∙ f)), λ p f. absurd (refused-not-accepted r p (sym e ∙ f)))),
-)
+each-refused j a b c edges speeds cells heads nexts r e =
+    let no : (p : Plan) → j ≡ accepted p → ⊥ = λ p f. refused-not-accepted r p (sym e ∙ f) in
+    (sym (ap read-answer e), (λ p f. absurd (no p f), (λ p f. absurd (no p f), (λ p f. absurd (no p f), λ p f. absurd (no p f)))))
 
 -- of a plan
-pub each-read : (j : Judged Plan) (a b c : ℕ) (edges speeds cells : List ℕ) (p : Plan) → j ≡ accepted p → (r : Reading) → r ≡ read-answer (accepted p)
+pub each-read : (j : Judged Plan) (a b c : ℕ) (edges speeds cells heads nexts : List ℕ) (p : Plan) → j ≡ accepted p → (r : Reading) → r ≡ read-answer (accepted p)
     → edges ≡ padded a (flatMap road-numbers (p .roads)) → speeds ≡ padded b (flatMap cart-numbers (p .carts)) → cells ≡ padded c (path-cells (p .paths))
-    → EachEnd j a b c r edges speeds cells
-each-read j a b c edges speeds cells p e r said x y z = (
+    → Indexed (length (p .roads)) edges heads nexts → EachEnd j a b c r edges speeds cells heads nexts
+each-read j a b c edges speeds cells heads nexts p e r said x y z k = (
   said ∙ sym (ap read-answer e),
   (
     λ q f. x ∙ ap (λ (v : Plan). padded a (flatMap road-numbers (v .roads))) (accepted-same p q (sym e ∙ f)),
     (
       λ q f. y ∙ ap (λ (v : Plan). padded b (flatMap cart-numbers (v .carts))) (accepted-same p q (sym e ∙ f)),
-      λ q f. z ∙ ap (λ (v : Plan). padded c (path-cells (v .paths))) (accepted-same p q (sym e ∙ f)),
+      (
+        λ q f. z ∙ ap (λ (v : Plan). padded c (path-cells (v .paths))) (accepted-same p q (sym e ∙ f)),
+        λ q f. subst (λ (v : Plan). Indexed (length (v .roads)) edges heads nexts) (accepted-same p q (sym e ∙ f)) k,
+      ),
     ),
   ),
 )
@@ -166,6 +172,21 @@ pub answer-numbers : (p : Plan) (n m w : ℕ) → Reading.Read n m w ≡ read-an
 unfolding read-answer told
 answer-numbers p n m w e = (ap (λ (r : Reading). told r .0) e, (ap (λ (r : Reading). told r .1 .0) e, ap (λ (r : Reading). told r .1 .1) e))
 
+-- only one that tells of a plan has an index to tell of
+pub short-not-read : (n m w : ℕ) → Reading.TooShort ≡ Reading.Read n m w → ⊥
+unfolding tells
+short-not-read n m w e = true≢false (sym (ap tells e))
+
+pub refused-not-read : (r : Refusal) (n m w : ℕ) → Reading.Refused r ≡ Reading.Read n m w → ⊥
+unfolding tells
+refused-not-read r n m w e = true≢false (sym (ap tells e))
+
+-- it is that of as many roads as it tells of
+pub index-read : (p : Plan) (n m w : ℕ) (s heads nexts : List ℕ) → Reading.Read n m w ≡ read-answer (accepted p) → Indexed (length (p .roads)) s heads nexts
+    → (i j v : ℕ) → Reading.Read n m w ≡ Reading.Read i j v → Indexed i s heads nexts
+unfolding read-answer told
+index-read p n m w s heads nexts e k i j v f = subst (λ (x : ℕ). Indexed x s heads nexts) (ap (λ (r : Reading). told r .0) (sym e ∙ f)) k
+
 -- a judgement never says that an array is too short
 pub answer-short : (j : Judged Plan) → Reading.TooShort ≡ read-answer j → ⊥
 unfolding read-answer answered tells
@@ -184,6 +205,18 @@ module _ (r c p e s k : List ℕ) where
   Into answer edges speeds cells =
       (answer ≡ read-into r c p e s k .answer)
       × ((edges ≡ read-into r c p e s k .arrays .roads) × ((speeds ≡ read-into r c p e s k .arrays .carts) × (cells ≡ read-into r c p e s k .arrays .cells)))
+
+  -- and where a plan is read, the index is that of its roads
+  abbrev pub IntoIndexed : Reading → List ℕ → List ℕ → List ℕ → List ℕ → List ℕ → Type 0
+  IntoIndexed answer edges speeds cells heads nexts =
+      (answer ≡ read-into r c p e s k .answer)
+      × ((edges ≡ read-into r c p e s k .arrays .roads)
+      × ((speeds ≡ read-into r c p e s k .arrays .carts)
+      × ((cells ≡ read-into r c p e s k .arrays .cells) × ((n m w : ℕ) → answer ≡ Reading.Read n m w → Indexed n edges heads nexts))))
+
+  pub with-index : (answer : Reading) (edges speeds cells heads nexts : List ℕ) → Into answer edges speeds cells
+      → ((n m w : ℕ) → answer ≡ Reading.Read n m w → Indexed n edges heads nexts) → IntoIndexed answer edges speeds cells heads nexts
+  with-index answer edges speeds cells heads nexts (a, (b, (d, f))) i = (a, (b, (d, (f, i))))
 
   abbrev pub ts : Tables
   ts = record { roads = r; carts = c; paths = p }
@@ -239,3 +272,56 @@ unfolding room
 no-room e s k (inl h) = simp (lt-leb 4096 (length e) h)
 no-room e s k (inr (inl h)) = ap (λ (b : Bool). leb 4096 (length e) && b && leb 8192 (length k)) (lt-leb 128 (length s) h) ∙ ap (λ (b : Bool). b && leb 8192 (length k)) (and-false (leb 4096 (length e)))
 no-room e s k (inr (inr h)) = ap (λ (b : Bool). leb 4096 (length e) && leb 128 (length s) && b) (lt-leb 8192 (length k) h) ∙ and-false (leb 4096 (length e) && leb 128 (length s))
+
+-- ---- with an index
+
+-- where no plan is read there is no road
+no-roads-read : (x : Reading) → ((n m w : ℕ) → x ≡ Reading.Read n m w → ⊥) → roads-read x ≡ 0
+unfolding roads-read
+no-roads-read (Reading.Read n m w) h = absurd (h n m w refl)
+no-roads-read Reading.TooShort h = refl
+no-roads-read (Reading.Refused r) h = refl
+
+-- and zeros are the index
+pub roads-none : (x : Reading) → ((n m w : ℕ) → x ≡ Reading.Read n m w → ⊥) → (i j : ℕ) (s heads nexts : List ℕ) → heads ≡ replicate i 0 → nexts ≡ replicate j 0
+    → Indexed (roads-read x) s heads nexts
+roads-none x h i j s heads nexts e f = subst (λ (n : ℕ). Indexed n s heads nexts) (sym (no-roads-read x h)) (none-indexed i j s heads nexts e f)
+
+-- where one is, as many as it says
+pub roads-told : (x : Reading) (n m w : ℕ) (s heads nexts : List ℕ) → x ≡ Reading.Read n m w → Indexed n s heads nexts → Indexed (roads-read x) s heads nexts
+unfolding roads-read
+roads-told x n m w s heads nexts e k = subst (λ (i : ℕ). Indexed i s heads nexts) (sym (ap roads-read e)) k
+
+-- the answer and the three arrays are those of `indexed-into`, and the index is that of the roads read
+module _ (room : Bool) (r c p e s k : List ℕ) where
+  abbrev pub WithIndex : Reading → List ℕ → List ℕ → List ℕ → List ℕ → List ℕ → Type 0
+  WithIndex answer edges speeds cells heads nexts =
+      (answer ≡ indexed-into room r c p e s k .answer)
+      × ((edges ≡ indexed-into room r c p e s k .arrays .roads)
+      × ((speeds ≡ indexed-into room r c p e s k .arrays .carts)
+      × ((cells ≡ indexed-into room r c p e s k .arrays .cells) × Indexed (roads-read answer) edges heads nexts)))
+
+-- an index has 1,024 places each
+pub index-other : (h n : List ℕ) → (length h ≢ 1024) ⊎ (length n ≢ 1024) → index-room h n ≡ false
+unfolding index-room
+index-other h n (inl a) = simp (ne-eqb (length h) 1024 a)
+index-other h n (inr b) = ap (λ (t : Bool). eqb (length h) 1024 && t) (ne-eqb (length n) 1024 b) ∙ and-false (eqb (length h) 1024)
+
+pub index-fits : (h n : List ℕ) → length h ≡ 1024 → length n ≡ 1024 → index-room h n ≡ true
+unfolding index-room
+index-fits h n a b = simp (eq-eqb (length h) 1024 a, eq-eqb (length n) 1024 b)
+
+-- no room for an index
+pub index-short : (h n r c p e s k heads nexts : List ℕ) → index-room h n ≡ false → (i j : ℕ) → heads ≡ replicate i 0 → nexts ≡ replicate j 0
+    → WithIndex (index-room h n) r c p e s k Reading.TooShort e s k heads nexts
+unfolding indexed-into roads-read
+index-short h n r c p e s k heads nexts q i j x y =
+    subst (λ (b : Bool). WithIndex b r c p e s k Reading.TooShort e s k heads nexts) (sym q) (refl, (refl, (refl, (refl, none-indexed i j e heads nexts x y))))
+
+-- room for one
+pub index-there : (h n r c p e s k : List ℕ) → index-room h n ≡ true → (x : Reading) (edges speeds cells heads nexts heads′ nexts′ : List ℕ)
+    → IntoIndexed r c p e s k x edges speeds cells heads nexts → Indexed (roads-read x) edges heads′ nexts′
+    → WithIndex (index-room h n) r c p e s k x edges speeds cells heads′ nexts′
+unfolding indexed-into
+index-there h n r c p e s k q x edges speeds cells heads nexts heads′ nexts′ (a, (b, (d, (f, _)))) i =
+    subst (λ (t : Bool). WithIndex t r c p e s k x edges speeds cells heads′ nexts′) (sym q) (a, (b, (d, (f, i))))

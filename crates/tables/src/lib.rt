@@ -17,7 +17,7 @@ ghost use Rattle.floor.specs.Plan.{Plan};
 ghost use Rattle.floor.specs.Tables.{read-tables};
 ghost use Rattle.tables.specs.Arrays.{road-numbers, cart-numbers, path-cells, roads-in, paths-in};
 ghost use Rattle.tables.specs.Index.{Indexed};
-ghost use Rattle.tables.specs.Reading.{apart, read-apart, paths-read, read-answer, read-into};
+ghost use Rattle.tables.specs.Reading.{apart, read-apart, paths-read, read-answer, read-into, roads-read, index-room, indexed-into};
 ghost use Rattle.words.specs.Words.{padded};
 
 // What the reader of the tables answers: how many roads, carts and steps there are, or why there is no plan.
@@ -150,7 +150,7 @@ fn read_apart(
     }
 }
 
-// The three tables, in arrays of zeros.
+// The three tables, and the index of the roads, in arrays of zeros.
 fn read_each(
     roads: &[u8],
     carts: &[u8],
@@ -158,17 +158,19 @@ fn read_each(
     edges: &mut [u32],
     speeds: &mut [u32],
     cells: &mut [u32],
+    heads: &mut [u16],
+    nexts: &mut [u16],
 ) -> Reading
     requires { ⌜ (4096 ≤ length (now edges)) × (128 ≤ length (now speeds)) × (8192 ≤ length (now cells)) ⌝ }
+    requires { ⌜ (now heads ≡ replicate 1024 0) × (now nexts ≡ replicate 1024 0) ⌝ }
     requires { ⌜ (now edges ≡ replicate (length (now edges)) 0) × (now speeds ≡ replicate (length (now speeds)) 0) × (now cells ≡ replicate (length (now cells)) 0) ⌝ }
     ensures answer { λ r. ⌜ r ≡ read-answer (read-tables (record { roads = now (roads .entry); carts = now (carts .entry); paths = now (paths .entry) })) ⌝ }
     ensures edges { λ _. ⌜ ((p : Plan) → read-tables (record { roads = now (roads .entry); carts = now (carts .entry); paths = now (paths .entry) }) ≡ accepted p → now (edges .exit) ≡ padded (length (now (edges .entry))) (flatMap road-numbers (p .roads))) ⌝ }
     ensures speeds { λ _. ⌜ ((p : Plan) → read-tables (record { roads = now (roads .entry); carts = now (carts .entry); paths = now (paths .entry) }) ≡ accepted p → now (speeds .exit) ≡ padded (length (now (speeds .entry))) (flatMap cart-numbers (p .carts))) ⌝ }
     ensures cells { λ _. ⌜ ((p : Plan) → read-tables (record { roads = now (roads .entry); carts = now (carts .entry); paths = now (paths .entry) }) ≡ accepted p → now (cells .exit) ≡ padded (length (now (cells .entry))) (path-cells (p .paths))) ⌝ }
+    ensures index { λ _. ⌜ ((p : Plan) → read-tables (record { roads = now (roads .entry); carts = now (carts .entry); paths = now (paths .entry) }) ≡ accepted p → Indexed (length (p .roads)) (now (edges .exit)) (now (heads .exit)) (now (nexts .exit))) ⌝ }
 {
-    let mut heads: [u16; 1024] = [0; 1024];
-    let mut nexts: [u16; 1024] = [0; 1024];
-    let x = roads::read_table(roads, edges, &mut heads, &mut nexts);
+    let x = roads::read_table(roads, edges, heads, nexts);
     match x {
         Count::Refused(why) => Reading::Refused(why),
         Count::Read(n) => {
@@ -176,7 +178,7 @@ fn read_each(
             match y {
                 Count::Refused(why) => Reading::Refused(why),
                 Count::Read(m) => {
-                    let z = read_apart(edges, &heads, &nexts, n, paths, m, cells);
+                    let z = read_apart(edges, heads, nexts, n, paths, m, cells);
                     match z {
                         PathsRead::Refused(why) => Reading::Refused(why),
                         PathsRead::Read(_, w) => Reading::Read {
@@ -191,19 +193,24 @@ fn read_each(
     }
 }
 
-// Reads and judges the three tables, up to refusal 9. The numbers of an accepted plan are left in the arrays: four a road, two a cart, one a path cell.
-pub fn read_tables(
+// Reads and judges the three tables, up to refusal 9. The numbers of an accepted plan are left in the arrays: four a road, two a cart, one a path cell; and
+// the index of its roads in two of zeros.
+fn read_arrays(
     roads: &[u8],
     carts: &[u8],
     paths: &[u8],
     edges: &mut [u32],
     speeds: &mut [u32],
     cells: &mut [u32],
+    heads: &mut [u16],
+    nexts: &mut [u16],
 ) -> Reading
+    requires { ⌜ (now heads ≡ replicate 1024 0) × (now nexts ≡ replicate 1024 0) ⌝ }
     ensures answer { λ r. ⌜ r ≡ read-into (now (roads .entry)) (now (carts .entry)) (now (paths .entry)) (now (edges .entry)) (now (speeds .entry)) (now (cells .entry)) .answer ⌝ }
     ensures edges { λ _. ⌜ now (edges .exit) ≡ read-into (now (roads .entry)) (now (carts .entry)) (now (paths .entry)) (now (edges .entry)) (now (speeds .entry)) (now (cells .entry)) .arrays .roads ⌝ }
     ensures speeds { λ _. ⌜ now (speeds .exit) ≡ read-into (now (roads .entry)) (now (carts .entry)) (now (paths .entry)) (now (edges .entry)) (now (speeds .entry)) (now (cells .entry)) .arrays .carts ⌝ }
     ensures cells { λ _. ⌜ now (cells .exit) ≡ read-into (now (roads .entry)) (now (carts .entry)) (now (paths .entry)) (now (edges .entry)) (now (speeds .entry)) (now (cells .entry)) .arrays .cells ⌝ }
+    ensures index { λ r. ⌜ ((n m w : ℕ) → r ≡ Reading.Read n m w → Indexed n (now (edges .exit)) (now (heads .exit)) (now (nexts .exit))) ⌝ }
 {
     if edges.len() < 4_096 {
         return Reading::TooShort;
@@ -215,7 +222,7 @@ pub fn read_tables(
         return Reading::TooShort;
     }
     clear_all(edges, speeds, cells);
-    let x = read_each(roads, carts, paths, edges, speeds, cells);
+    let x = read_each(roads, carts, paths, edges, speeds, cells, heads, nexts);
     match x {
         Reading::Refused(why) => {
             clear_all(edges, speeds, cells);
@@ -232,4 +239,82 @@ pub fn read_tables(
             steps: w,
         },
     }
+}
+
+// The same without an index.
+pub fn read_tables(
+    roads: &[u8],
+    carts: &[u8],
+    paths: &[u8],
+    edges: &mut [u32],
+    speeds: &mut [u32],
+    cells: &mut [u32],
+) -> Reading
+    ensures answer { λ r. ⌜ r ≡ read-into (now (roads .entry)) (now (carts .entry)) (now (paths .entry)) (now (edges .entry)) (now (speeds .entry)) (now (cells .entry)) .answer ⌝ }
+    ensures edges { λ _. ⌜ now (edges .exit) ≡ read-into (now (roads .entry)) (now (carts .entry)) (now (paths .entry)) (now (edges .entry)) (now (speeds .entry)) (now (cells .entry)) .arrays .roads ⌝ }
+    ensures speeds { λ _. ⌜ now (speeds .exit) ≡ read-into (now (roads .entry)) (now (carts .entry)) (now (paths .entry)) (now (edges .entry)) (now (speeds .entry)) (now (cells .entry)) .arrays .carts ⌝ }
+    ensures cells { λ _. ⌜ now (cells .exit) ≡ read-into (now (roads .entry)) (now (carts .entry)) (now (paths .entry)) (now (edges .entry)) (now (speeds .entry)) (now (cells .entry)) .arrays .cells ⌝ }
+{
+    let mut heads: [u16; 1024] = [0; 1024];
+    let mut nexts: [u16; 1024] = [0; 1024];
+    read_arrays(
+        roads,
+        carts,
+        paths,
+        edges,
+        speeds,
+        cells,
+        &mut heads,
+        &mut nexts,
+    )
+}
+
+// Zeros in every place of an array of links.
+pub fn clear_links(s: &mut [u16])
+    ensures { λ _. ⌜ now (s .exit) ≡ replicate (length (now (s .entry))) 0 ⌝ }
+{
+    let mut i = 0;
+    while i < s.len() {
+        s[i] = 0;
+        i += 1;
+    }
+}
+
+// The same with the index of the roads, in arrays of 1,024 places each, so that who goes along roads need not make it again. Where no plan is read it is
+// that of no road.
+pub fn read_indexed(
+    roads: &[u8],
+    carts: &[u8],
+    paths: &[u8],
+    edges: &mut [u32],
+    speeds: &mut [u32],
+    cells: &mut [u32],
+    heads: &mut [u16],
+    nexts: &mut [u16],
+) -> Reading
+    ensures answer { λ r. ⌜ r ≡ indexed-into (index-room (now (heads .entry)) (now (nexts .entry))) (now (roads .entry)) (now (carts .entry)) (now (paths .entry)) (now (edges .entry)) (now (speeds .entry)) (now (cells .entry)) .answer ⌝ }
+    ensures edges { λ _. ⌜ now (edges .exit) ≡ indexed-into (index-room (now (heads .entry)) (now (nexts .entry))) (now (roads .entry)) (now (carts .entry)) (now (paths .entry)) (now (edges .entry)) (now (speeds .entry)) (now (cells .entry)) .arrays .roads ⌝ }
+    ensures speeds { λ _. ⌜ now (speeds .exit) ≡ indexed-into (index-room (now (heads .entry)) (now (nexts .entry))) (now (roads .entry)) (now (carts .entry)) (now (paths .entry)) (now (edges .entry)) (now (speeds .entry)) (now (cells .entry)) .arrays .carts ⌝ }
+    ensures cells { λ _. ⌜ now (cells .exit) ≡ indexed-into (index-room (now (heads .entry)) (now (nexts .entry))) (now (roads .entry)) (now (carts .entry)) (now (paths .entry)) (now (edges .entry)) (now (speeds .entry)) (now (cells .entry)) .arrays .cells ⌝ }
+    ensures index { λ r. ⌜ Indexed (roads-read r) (now (edges .exit)) (now (heads .exit)) (now (nexts .exit)) ⌝ }
+{
+    clear_links(heads);
+    clear_links(nexts);
+    if heads.len() != 1024 {
+        return Reading::TooShort;
+    }
+    if nexts.len() != 1024 {
+        return Reading::TooShort;
+    }
+    let x = read_arrays(roads, carts, paths, edges, speeds, cells, heads, nexts);
+    if let Reading::Read {
+        roads: _,
+        carts: _,
+        steps: _,
+    } = x {
+        return x;
+    }
+    clear_links(heads);
+    clear_links(nexts);
+    x
 }

@@ -36,7 +36,7 @@ loop-holds c =
       refl,
       refl,
       refl,
-      none-indexed (a .args .roads .now) (a .args .heads .now) (a .args .nexts .now) (a .pre .1 .0),
+      none-indexed 1024 1024 (a .args .roads .now) (a .args .heads .now) (a .args .nexts .now) (a .pre .1 .0) (a .pre .1 .1),
       first-turn road road-numbers (a .args .table .now) (a .args .roads .now) (a .args .start) (a .pre .0 .1),
     )
 
