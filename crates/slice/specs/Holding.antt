@@ -79,7 +79,18 @@ laid-into plan edges speeds cells =
     let a : Arrays = record { roads = edges; carts = speeds; cells = cells } in
     where-room plan a (laying (length (log-in plan)) (laid plan)) (arrays-laid a (laid plan))
 
+-- the same with an index of the roads: without room for it the arrays stay as they came
+unfoldable pub laid-indexed : Bool → List ℕ → List ℕ → List ℕ → List ℕ → Outcome
+laid-indexed false plan edges speeds cells = record { answer = Holding.TooShort; arrays = record { roads = edges; carts = speeds; cells = cells } }
+laid-indexed true plan edges speeds cells = laid-into plan edges speeds cells
+
+-- how many roads an answer tells of: none where no plan is read
+unfoldable pub roads-held : Holding → ℕ
+roads-held Holding.TooShort = 0
+roads-held Holding.NoPlan = 0
+roads-held (Holding.Held a b w n) = a
+
 -- Names every definition of this module, for a proof that computes with them all.
 unfoldable pub open-holding : Unit {0}
-unfolding only-zeros layout holding arrays-held where-room read-slice plan-into plan-of laid laying arrays-laid laid-into
+unfolding only-zeros layout holding arrays-held where-room read-slice plan-into plan-of laid laying arrays-laid laid-into laid-indexed roads-held
 open-holding = tt

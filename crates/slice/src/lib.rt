@@ -5,14 +5,15 @@ use tables::Reading;
 ghost use mathlib.Core.Path.{_≡_};
 ghost use mathlib.Core.Bool.{true, _&&_};
 ghost use mathlib.Core.Option.{some};
-ghost use Prim.Native.Nat.{_≤_};
+ghost use Prim.Native.Nat.{ℕ, _≤_};
 ghost use lib.ListN.{length, take, drop};
-ghost use Rattle.tables.specs.Reading.{numbers-of, read-into};
+ghost use Rattle.tables.specs.Index.{Indexed};
+ghost use Rattle.tables.specs.Reading.{numbers-of, read-into, roads-read, index-room};
 ghost use Rattle.limits.specs.Limits.{paths-within};
 ghost use Rattle.book.specs.Log.{log-book, is-book};
 ghost use Rattle.floor.specs.Plan.{Plan};
 ghost use Rattle.slice.specs.PlanSlice.{tables-in, log-in, nothing-else};
-ghost use Rattle.slice.specs.Holding.{laid, laying, laid-into, plan-into};
+ghost use Rattle.slice.specs.Holding.{laid, laying, laid-into, laid-indexed, roads-held, plan-into};
 ghost use Rattle.slice.specs.Entry.{with-entry};
 ghost use Rattle.schedule.specs.Book.{_at_};
 
@@ -80,7 +81,7 @@ fn accepts_log(plan: &[u8], n: usize, cells: &[u32], carts: usize, steps: usize)
     book::accepts(cells, carts, steps, log, times)
 }
 
-// Reads the tables of a slice, of r, c and p bytes.
+// Reads the tables of a slice, of r, c and p bytes, and the index of its roads.
 fn read_texts(
     plan: &[u8],
     r: usize,
@@ -89,16 +90,20 @@ fn read_texts(
     edges: &mut [u32],
     speeds: &mut [u32],
     cells: &mut [u32],
+    heads: &mut [u16],
+    nexts: &mut [u16],
 ) -> Reading
     requires { ⌜ (233472 ≤ length (now plan)) × (r ≤ 65536) × (c ≤ 65536) × (p ≤ 65536) ⌝ }
+    requires { ⌜ (length (now heads) ≡ 1024) × (length (now nexts) ≡ 1024) ⌝ }
     ensures answer { λ x. ⌜ x ≡ read-into (take r (now (plan .entry))) (take c (drop 65536 (now (plan .entry)))) (take p (drop 131072 (now (plan .entry)))) (now (edges .entry)) (now (speeds .entry)) (now (cells .entry)) .answer ⌝ }
     ensures edges { λ _. ⌜ now (edges .exit) ≡ read-into (take r (now (plan .entry))) (take c (drop 65536 (now (plan .entry)))) (take p (drop 131072 (now (plan .entry)))) (now (edges .entry)) (now (speeds .entry)) (now (cells .entry)) .arrays .roads ⌝ }
     ensures speeds { λ _. ⌜ now (speeds .exit) ≡ read-into (take r (now (plan .entry))) (take c (drop 65536 (now (plan .entry)))) (take p (drop 131072 (now (plan .entry)))) (now (edges .entry)) (now (speeds .entry)) (now (cells .entry)) .arrays .carts ⌝ }
     ensures cells { λ _. ⌜ now (cells .exit) ≡ read-into (take r (now (plan .entry))) (take c (drop 65536 (now (plan .entry)))) (take p (drop 131072 (now (plan .entry)))) (now (edges .entry)) (now (speeds .entry)) (now (cells .entry)) .arrays .cells ⌝ }
+    ensures index { λ x. ⌜ Indexed (roads-read x) (now (edges .exit)) (now (heads .exit)) (now (nexts .exit)) ⌝ }
 {
     let carts = part(plan, 65_536, c);
     let paths = part(plan, 131_072, p);
-    tables::read_tables(&plan[..r], carts, paths, edges, speeds, cells)
+    tables::read_indexed(&plan[..r], carts, paths, edges, speeds, cells, heads, nexts)
 }
 
 // Reads the plan of a slice that is laid out so: what its tables say, with the numbers in the arrays.
@@ -111,14 +116,18 @@ fn read_parts(
     edges: &mut [u32],
     speeds: &mut [u32],
     cells: &mut [u32],
+    heads: &mut [u16],
+    nexts: &mut [u16],
 ) -> Holding
     requires { ⌜ (233472 ≤ length (now plan)) × (nothing-else (now plan) (tables-in (now plan)) (log-in (now plan)) ≡ true) ⌝ }
     requires { ⌜ (r ≡ length (tables-in (now plan) .roads)) × (c ≡ length (tables-in (now plan) .carts)) × (p ≡ length (tables-in (now plan) .paths)) × (n ≡ length (log-in (now plan))) ⌝ }
     requires { ⌜ (4096 ≤ length (now edges)) × (128 ≤ length (now speeds)) × (8192 ≤ length (now cells)) ⌝ }
+    requires { ⌜ (length (now heads) ≡ 1024) × (length (now nexts) ≡ 1024) ⌝ }
     ensures answer { λ x. ⌜ x ≡ laying (length (log-in (now (plan .entry)))) (laid (now (plan .entry))) ⌝ }
     ensures left { λ _. ⌜ ((q : Plan) → laid (now (plan .entry)) ≡ some q → numbers-of (record { roads = now (edges .entry); carts = now (speeds .entry); cells = now (cells .entry) }) q ≡ record { roads = now (edges .exit); carts = now (speeds .exit); cells = now (cells .exit) }) ⌝ }
+    ensures index { λ x. ⌜ ((i j w m : ℕ) → x ≡ Holding.Held i j w m → Indexed i (now (edges .exit)) (now (heads .exit)) (now (nexts .exit))) ⌝ }
 {
-    let x = read_texts(plan, r, c, p, edges, speeds, cells);
+    let x = read_texts(plan, r, c, p, edges, speeds, cells, heads, nexts);
     match x {
         Reading::Refused(_) => Holding::NoPlan,
         Reading::TooShort => Holding::NoPlan,
@@ -136,10 +145,19 @@ fn read_parts(
 }
 
 // Reads the plan of a slice, if its tables give one and there is nothing else, into arrays that have room.
-fn read_found(plan: &[u8], edges: &mut [u32], speeds: &mut [u32], cells: &mut [u32]) -> Holding
+fn read_found(
+    plan: &[u8],
+    edges: &mut [u32],
+    speeds: &mut [u32],
+    cells: &mut [u32],
+    heads: &mut [u16],
+    nexts: &mut [u16],
+) -> Holding
     requires { ⌜ (233472 ≤ length (now plan)) × (4096 ≤ length (now edges)) × (128 ≤ length (now speeds)) × (8192 ≤ length (now cells)) ⌝ }
+    requires { ⌜ (length (now heads) ≡ 1024) × (length (now nexts) ≡ 1024) ⌝ }
     ensures answer { λ x. ⌜ x ≡ laying (length (log-in (now (plan .entry)))) (laid (now (plan .entry))) ⌝ }
     ensures left { λ _. ⌜ ((q : Plan) → laid (now (plan .entry)) ≡ some q → numbers-of (record { roads = now (edges .entry); carts = now (speeds .entry); cells = now (cells .entry) }) q ≡ record { roads = now (edges .exit); carts = now (speeds .exit); cells = now (cells .exit) }) ⌝ }
+    ensures index { λ x. ⌜ ((i j w m : ℕ) → x ≡ Holding.Held i j w m → Indexed i (now (edges .exit)) (now (heads .exit)) (now (nexts .exit))) ⌝ }
 {
     let x = parts::find_parts(plan);
     match x {
@@ -149,17 +167,25 @@ fn read_found(plan: &[u8], edges: &mut [u32], speeds: &mut [u32], cells: &mut [u
             carts: c,
             paths: p,
             reports: n,
-        } => read_parts(plan, r, c, p, n, edges, speeds, cells),
+        } => read_parts(plan, r, c, p, n, edges, speeds, cells, heads, nexts),
     }
 }
 
-// Reads the plan of a slice: its tables are judged again, and there may be nothing else beside a log. Its last limits, of events and bounds, and the log
-// are left to the caller, who may count by writing.
-pub fn read_laid(plan: &[u8], edges: &mut [u32], speeds: &mut [u32], cells: &mut [u32]) -> Holding
+// Reads the plan of a slice: its tables are judged again, and there may be nothing else beside a log.
+fn read_room(
+    plan: &[u8],
+    edges: &mut [u32],
+    speeds: &mut [u32],
+    cells: &mut [u32],
+    heads: &mut [u16],
+    nexts: &mut [u16],
+) -> Holding
+    requires { ⌜ (length (now heads) ≡ 1024) × (length (now nexts) ≡ 1024) ⌝ }
     ensures answer { λ r. ⌜ r ≡ laid-into (now (plan .entry)) (now (edges .entry)) (now (speeds .entry)) (now (cells .entry)) .answer ⌝ }
     ensures left { λ _. ⌜ now (edges .exit) ≡ laid-into (now (plan .entry)) (now (edges .entry)) (now (speeds .entry)) (now (cells .entry)) .arrays .roads ⌝ }
     ensures left_speeds { λ _. ⌜ now (speeds .exit) ≡ laid-into (now (plan .entry)) (now (edges .entry)) (now (speeds .entry)) (now (cells .entry)) .arrays .carts ⌝ }
     ensures left_cells { λ _. ⌜ now (cells .exit) ≡ laid-into (now (plan .entry)) (now (edges .entry)) (now (speeds .entry)) (now (cells .entry)) .arrays .cells ⌝ }
+    ensures index { λ x. ⌜ ((i j w m : ℕ) → x ≡ Holding.Held i j w m → Indexed i (now (edges .exit)) (now (heads .exit)) (now (nexts .exit))) ⌝ }
 {
     if plan.len() < 233_472 {
         return Holding::TooShort;
@@ -173,10 +199,64 @@ pub fn read_laid(plan: &[u8], edges: &mut [u32], speeds: &mut [u32], cells: &mut
     if cells.len() < 8192 {
         return Holding::TooShort;
     }
-    let x = read_found(plan, edges, speeds, cells);
+    let x = read_found(plan, edges, speeds, cells, heads, nexts);
     if let Holding::NoPlan = x {
         tables::clear_all(edges, speeds, cells);
     }
+    x
+}
+
+// The same where the index has room.
+fn read_where(
+    plan: &[u8],
+    edges: &mut [u32],
+    speeds: &mut [u32],
+    cells: &mut [u32],
+    heads: &mut [u16],
+    nexts: &mut [u16],
+) -> Holding
+    ensures answer { λ r. ⌜ r ≡ laid-indexed (index-room (now (heads .entry)) (now (nexts .entry))) (now (plan .entry)) (now (edges .entry)) (now (speeds .entry)) (now (cells .entry)) .answer ⌝ }
+    ensures left { λ _. ⌜ now (edges .exit) ≡ laid-indexed (index-room (now (heads .entry)) (now (nexts .entry))) (now (plan .entry)) (now (edges .entry)) (now (speeds .entry)) (now (cells .entry)) .arrays .roads ⌝ }
+    ensures left_speeds { λ _. ⌜ now (speeds .exit) ≡ laid-indexed (index-room (now (heads .entry)) (now (nexts .entry))) (now (plan .entry)) (now (edges .entry)) (now (speeds .entry)) (now (cells .entry)) .arrays .carts ⌝ }
+    ensures left_cells { λ _. ⌜ now (cells .exit) ≡ laid-indexed (index-room (now (heads .entry)) (now (nexts .entry))) (now (plan .entry)) (now (edges .entry)) (now (speeds .entry)) (now (cells .entry)) .arrays .cells ⌝ }
+    ensures index { λ x. ⌜ ((i j w m : ℕ) → x ≡ Holding.Held i j w m → Indexed i (now (edges .exit)) (now (heads .exit)) (now (nexts .exit))) ⌝ }
+{
+    if heads.len() != 1024 {
+        return Holding::TooShort;
+    }
+    if nexts.len() != 1024 {
+        return Holding::TooShort;
+    }
+    read_room(plan, edges, speeds, cells, heads, nexts)
+}
+
+// Reads the plan of a slice and the index of its roads. Its last limits, of events and bounds, and the log are left to the caller, who may count by
+// writing. Where no plan is read, the index is that of no road.
+pub fn read_laid(
+    plan: &[u8],
+    edges: &mut [u32],
+    speeds: &mut [u32],
+    cells: &mut [u32],
+    heads: &mut [u16],
+    nexts: &mut [u16],
+) -> Holding
+    ensures answer { λ r. ⌜ r ≡ laid-indexed (index-room (now (heads .entry)) (now (nexts .entry))) (now (plan .entry)) (now (edges .entry)) (now (speeds .entry)) (now (cells .entry)) .answer ⌝ }
+    ensures left { λ _. ⌜ now (edges .exit) ≡ laid-indexed (index-room (now (heads .entry)) (now (nexts .entry))) (now (plan .entry)) (now (edges .entry)) (now (speeds .entry)) (now (cells .entry)) .arrays .roads ⌝ }
+    ensures left_speeds { λ _. ⌜ now (speeds .exit) ≡ laid-indexed (index-room (now (heads .entry)) (now (nexts .entry))) (now (plan .entry)) (now (edges .entry)) (now (speeds .entry)) (now (cells .entry)) .arrays .carts ⌝ }
+    ensures left_cells { λ _. ⌜ now (cells .exit) ≡ laid-indexed (index-room (now (heads .entry)) (now (nexts .entry))) (now (plan .entry)) (now (edges .entry)) (now (speeds .entry)) (now (cells .entry)) .arrays .cells ⌝ }
+    ensures index { λ r. ⌜ Indexed (roads-held r) (now (edges .exit)) (now (heads .exit)) (now (nexts .exit)) ⌝ }
+{
+    let x = read_where(plan, edges, speeds, cells, heads, nexts);
+    if let Holding::Held {
+        roads: _,
+        carts: _,
+        steps: _,
+        reports: _,
+    } = x {
+        return x;
+    }
+    tables::clear_links(heads);
+    tables::clear_links(nexts);
     x
 }
 
@@ -187,7 +267,9 @@ pub fn read_plan(plan: &[u8], edges: &mut [u32], speeds: &mut [u32], cells: &mut
     ensures left_speeds { λ _. ⌜ now (speeds .exit) ≡ plan-into (now (plan .entry)) (now (edges .entry)) (now (speeds .entry)) (now (cells .entry)) .arrays .carts ⌝ }
     ensures left_cells { λ _. ⌜ now (cells .exit) ≡ plan-into (now (plan .entry)) (now (edges .entry)) (now (speeds .entry)) (now (cells .entry)) .arrays .cells ⌝ }
 {
-    let x = read_laid(plan, edges, speeds, cells);
+    let mut heads: [u16; 1024] = [0; 1024];
+    let mut nexts: [u16; 1024] = [0; 1024];
+    let x = read_room(plan, edges, speeds, cells, &mut heads, &mut nexts);
     match x {
         Holding::TooShort => Holding::TooShort,
         Holding::NoPlan => Holding::NoPlan,

@@ -2,6 +2,7 @@
 use mathlib.Core.Path.{sym, _∙_}
 use borrow.Author.Needs.{needs}
 use Rattle.slice.proofs.Holds.{broken-laid, parts-found}
+use Rattle.slice.proofs.Indexing.{none-not-held}
 use Rattle.slice.proofs.read_found.Statement.{statement}
 use Rattle.slice.proofs.read_found.Tie as tie
 
@@ -16,16 +17,17 @@ enum-known-x c = search needs
 
 read-parts-requires : tie.Need-read-parts-requires
 read-parts-requires c κs =
-    let x = c .before .before .before .before in
+    let x = c .before .before .before .before .before .before in
     let f = x .before .before in
-    let b = f .before .before .before .before .before in
+    let b = f .before .before .before .before .before .before .before in
     let (alone, (r, (p, (q, n)))) = parts-found (b .args .plan .now) _ _ _ _ (sym (x .x .given .1) ∙ f .find-parts .ensures) in
-    ((b .pre .0, alone), ((r, p, q, n), (b .pre .1, b .pre .2, b .pre .3)))
+    ((b .pre .0 .0, alone), ((r, p, q, n), ((b .pre .0 .1, b .pre .0 .2, b .pre .0 .3), b .pre .1)))
 
 returns : tie.Need-returns
 returns c =
     let f = c .before .before in
-    broken-laid (f .before .before .before .before .before .args .plan .now) _ _ (sym (c .enum-told .given .1) ∙ f .find-parts .ensures)
+    let (x, y) = broken-laid (f .before .before .before .before .before .before .before .args .plan .now) _ _ (sym (c .enum-told .given .1) ∙ f .find-parts .ensures) in
+    (x, (y, λ i j w m g. absurd (none-not-held i j w m g)))
 
 same-length : tie.Need-same-length
 same-length c = search needs
@@ -35,6 +37,12 @@ same-length-2 c = search needs
 
 same-length-3 : tie.Need-same-length-3
 same-length-3 c = search needs
+
+same-length-4 : tie.Need-same-length-4
+same-length-4 c = search needs
+
+same-length-5 : tie.Need-same-length-5
+same-length-5 c = search needs
 
 returns-2 : tie.Need-returns-2
 returns-2 c = search needs
@@ -51,4 +59,6 @@ read-found-spec =
     same-length
     same-length-2
     same-length-3
+    same-length-4
+    same-length-5
     returns-2)

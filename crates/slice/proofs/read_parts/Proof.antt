@@ -2,19 +2,20 @@
 use native.Mathlib.Omega.{arith}
 use borrow.Author.Needs.{needs}
 use Rattle.slice.proofs.Holds.{tables-few, parts-refused, parts-short, parts-laid}
+use Rattle.slice.proofs.Indexing.{none-not-held, held-index}
 use Rattle.slice.proofs.read_parts.Statement.{statement}
 use Rattle.slice.proofs.read_parts.Tie as tie
 
 -- where the slices are lent
 abbrev start : tie.After-read-texts → tie.Start
-start t = t .before .before .before .before .before .before .before .before
+start t = t .before .before .before .before .before .before .before .before .before .before .before .before
 
 read-texts-requires : tie.Need-read-texts-requires
 read-texts-requires c κs =
-    let b = c .before .before .before .before .before .before .before in
+    let b = c .before .before .before .before .before .before .before .before .before .before .before in
     let few = tables-few (b .args .plan .now) in
     let sizes = b .pre .1 .0 in
-    (b .pre .0 .0, omega (arith, sizes .0, few .0), omega (arith, sizes .1, few .1 .0), omega (arith, sizes .2, few .1 .1))
+    ((b .pre .0 .0, omega (arith, sizes .0, few .0), omega (arith, sizes .1, few .1 .0), omega (arith, sizes .2, few .1 .1)), b .pre .1 .1 .1)
 
 enum-told : tie.Need-enum-told
 enum-told c = search needs
@@ -34,13 +35,6 @@ same-length-2 c = search needs
 same-length-3 : tie.Need-same-length-3
 same-length-3 c = search needs
 
-returns : tie.Need-returns
-returns c =
-    let t = c .before .before .before .before .before .before .before .before in
-    let b = start t in
-    parts-refused (b .args .plan .now) (b .pre .0 .1) (b .args .r) (b .args .c) (b .args .p) (b .args .n) (b .pre .1 .0)
-    (b .args .edges .now) (b .args .speeds .now) (b .args .cells .now) (b .pre .1 .1) _ _ _ _ (t .read-texts .ensures) _ (c .enum-told .given .1)
-
 same-length-4 : tie.Need-same-length-4
 same-length-4 c = search needs
 
@@ -49,13 +43,6 @@ same-length-5 c = search needs
 
 same-length-6 : tie.Need-same-length-6
 same-length-6 c = search needs
-
-returns-2 : tie.Need-returns-2
-returns-2 c =
-    let t = c .before .before .before .before .before .before .before .before in
-    let b = start t in
-    parts-short (b .args .plan .now) (b .pre .0 .1) (b .args .r) (b .args .c) (b .args .p) (b .args .n) (b .pre .1 .0)
-    (b .args .edges .now) (b .args .speeds .now) (b .args .cells .now) (b .pre .1 .1) _ _ _ _ (t .read-texts .ensures) (c .enum-told2 .given .1)
 
 same-length-7 : tie.Need-same-length-7
 same-length-7 c = search needs
@@ -66,12 +53,50 @@ same-length-8 c = search needs
 same-length-9 : tie.Need-same-length-9
 same-length-9 c = search needs
 
+same-length-10 : tie.Need-same-length-10
+same-length-10 c = search needs
+
+same-length-11 : tie.Need-same-length-11
+same-length-11 c = search needs
+
+same-length-12 : tie.Need-same-length-12
+same-length-12 c = search needs
+
+same-length-13 : tie.Need-same-length-13
+same-length-13 c = search needs
+
+same-length-14 : tie.Need-same-length-14
+same-length-14 c = search needs
+
+same-length-15 : tie.Need-same-length-15
+same-length-15 c = search needs
+
+returns : tie.Need-returns
+returns c =
+    let t = c .before .before .before .before .before .before .before .before .before .before .before .before in
+    let b = start t in
+    let e = t .read-texts .ensures in
+    let (x, y) = parts-refused (b .args .plan .now) (b .pre .0 .1) (b .args .r) (b .args .c) (b .args .p) (b .args .n) (b .pre .1 .0)
+    (b .args .edges .now) (b .args .speeds .now) (b .args .cells .now) (b .pre .1 .1 .0) _ _ _ _ (e .0, (e .1 .0, (e .1 .1 .0, e .1 .1 .1 .0))) _ (c .enum-told .given .1) in
+    (x, (y, λ i j w m f. absurd (none-not-held i j w m f)))
+
+returns-2 : tie.Need-returns-2
+returns-2 c =
+    let t = c .before .before .before .before .before .before .before .before .before .before .before .before in
+    let b = start t in
+    let e = t .read-texts .ensures in
+    let (x, y) = parts-short (b .args .plan .now) (b .pre .0 .1) (b .args .r) (b .args .c) (b .args .p) (b .args .n) (b .pre .1 .0)
+    (b .args .edges .now) (b .args .speeds .now) (b .args .cells .now) (b .pre .1 .1 .0) _ _ _ _ (e .0, (e .1 .0, (e .1 .1 .0, e .1 .1 .1 .0))) (c .enum-told2 .given .1) in
+    (x, (y, λ i j w m f. absurd (none-not-held i j w m f)))
+
 returns-3 : tie.Need-returns-3
 returns-3 c =
-    let t = c .before .before .before .before .before .before .before .before .before in
+    let t = c .before .before .before .before .before .before .before .before .before .before .before .before .before in
     let b = start t in
-    parts-laid (b .args .plan .now) (b .pre .0 .1) (b .args .r) (b .args .c) (b .args .p) (b .args .n) (b .pre .1 .0)
-    (b .args .edges .now) (b .args .speeds .now) (b .args .cells .now) (b .pre .1 .1) _ _ _ _ (t .read-texts .ensures) _ _ _ (c .before .x .given .1)
+    let e = t .read-texts .ensures in
+    let (x, y) = parts-laid (b .args .plan .now) (b .pre .0 .1) (b .args .r) (b .args .c) (b .args .p) (b .args .n) (b .pre .1 .0)
+    (b .args .edges .now) (b .args .speeds .now) (b .args .cells .now) (b .pre .1 .1 .0) _ _ _ _ (e .0, (e .1 .0, (e .1 .1 .0, e .1 .1 .1 .0))) _ _ _ (c .before .x .given .1) in
+    (x, (y, held-index _ _ _ _ (b .args .n) _ _ _ (c .before .x .given .1) (e .1 .1 .1 .1)))
 
 pub read-parts-spec : {M : Type 1} → statement M
 read-parts-spec =
@@ -84,12 +109,18 @@ read-parts-spec =
     same-length
     same-length-2
     same-length-3
-    returns
     same-length-4
     same-length-5
+    returns
     same-length-6
-    returns-2
     same-length-7
     same-length-8
     same-length-9
+    same-length-10
+    returns-2
+    same-length-11
+    same-length-12
+    same-length-13
+    same-length-14
+    same-length-15
     returns-3)

@@ -1,22 +1,29 @@
 -- `slice::read_plan` meets its contract, on all input: what is laid out is not there, passes the limits, has a log that is refused, or is held. Assumes nothing.
 use Prim.Native.Nat.{ℕ}
 use mathlib.Core.Path.{ap, _∙_}
-use lib.ListN.{replicate}
+use lib.ListN.{replicate, length-replicate}
 use borrow.Author.Needs.{needs}
 use Rattle.slice.proofs.Holds.{plan-short, plan-none, slice-long, reports-few, plan-held, plan-not-held}
+use Rattle.slice.proofs.Indexing.{front}
 use Rattle.slice.proofs.read_plan.Statement.{statement}
 use Rattle.slice.proofs.read_plan.Tie as tie
 
 -- where the slices are lent
-abbrev start : tie.After-read-laid → tie.Start
-start r = r .before .before .before .before .before .before .before .before
+abbrev start : tie.After-read-room → tie.Start
+start r = r .before .before .before .before .before .before .before .before .before .before
 
 -- what is laid out was read
-abbrev laid : tie.After-slice-known6 → tie.After-read-laid
-laid c = c .before .before .before .before .before .before
+abbrev laid : tie.After-nexts2 → tie.After-read-room
+laid c = c .before .before .before .before .before .before .before .before
 
-read-laid-requires : tie.Need-read-laid-requires
-read-laid-requires c κs = search needs
+slice-aggregate-read-room : tie.Need-slice-aggregate-read-room
+slice-aggregate-read-room c = search needs
+
+slice-aggregate-read-room-2 : tie.Need-slice-aggregate-read-room-2
+slice-aggregate-read-room-2 c = search needs
+
+read-room-requires : tie.Need-read-room-requires
+read-room-requires c κs = (length-replicate {A = ℕ} 1024 0, length-replicate {A = ℕ} 1024 0)
 
 enum-told : tie.Need-enum-told
 enum-told c = search needs
@@ -32,7 +39,7 @@ accepts-log-requires c κs =
     let k = c .before .before in
     let r = laid (k .before .before) in
     let a = start r .args in
-    (slice-long (a .plan .now) (a .edges .now) (a .speeds .now) (a .cells .now) _ _ _ _ (r .read-laid .ensures) _ _ _ _ (k .x .given .1), reports-few (a .plan .now) (a .edges .now) (a .speeds .now) (a .cells .now) _ _ _ _ (r .read-laid .ensures) _ _ _ _ (k .x .given .1))
+    (slice-long (a .plan .now) (a .edges .now) (a .speeds .now) (a .cells .now) _ _ _ _ (front (r .read-room .ensures)) _ _ _ _ (k .x .given .1), reports-few (a .plan .now) (a .edges .now) (a .speeds .now) (a .cells .now) _ _ _ _ (front (r .read-room .ensures)) _ _ _ _ (k .x .given .1))
 
 same-length : tie.Need-same-length
 same-length c = search needs
@@ -49,7 +56,7 @@ returns c =
     let k = g .before .before .before in
     let r = laid (k .before .before) in
     let a = start r .args in
-    plan-held (a .plan .now) (a .edges .now) (a .speeds .now) (a .cells .now) _ _ _ _ (r .read-laid .ensures) _ _ _ _ (k .x .given .1) _ (g .accepts-log .ensures) (c .if1 .taken)
+    plan-held (a .plan .now) (a .edges .now) (a .speeds .now) (a .cells .now) _ _ _ _ (front (r .read-room .ensures)) _ _ _ _ (k .x .given .1) _ (g .accepts-log .ensures) (c .if1 .taken)
 
 clear-all-requires : tie.Need-clear-all-requires
 clear-all-requires c κs = search needs
@@ -67,7 +74,7 @@ returns-2 : tie.Need-returns-2
 returns-2 c =
     let r = laid (c .before .before) in
     let a = start r .args in
-    plan-short (a .plan .now) (a .edges .now) (a .speeds .now) (a .cells .now) _ _ _ _ (r .read-laid .ensures) (c .enum-told .given .1)
+    plan-short (a .plan .now) (a .edges .now) (a .speeds .now) (a .cells .now) _ _ _ _ (front (r .read-room .ensures)) (c .enum-told .given .1)
 
 same-length-7 : tie.Need-same-length-7
 same-length-7 c = search needs
@@ -82,7 +89,7 @@ returns-3 : tie.Need-returns-3
 returns-3 c =
     let r = laid (c .before .before) in
     let a = start r .args in
-    plan-none (a .plan .now) (a .edges .now) (a .speeds .now) (a .cells .now) _ _ _ _ (r .read-laid .ensures) (c .enum-told2 .given .1)
+    plan-none (a .plan .now) (a .edges .now) (a .speeds .now) (a .cells .now) _ _ _ _ (front (r .read-room .ensures)) (c .enum-told2 .given .1)
 
 same-length-10 : tie.Need-same-length-10
 same-length-10 c = search needs
@@ -102,16 +109,18 @@ returns-4 c =
     let r = laid (k .before .before) in
     let a = start r .args in
     let f = w .clear-all .ensures in
-    plan-not-held (a .plan .now) (a .edges .now) (a .speeds .now) (a .cells .now) _ _ _ _ (r .read-laid .ensures) _ _ _ _ (k .x .given .1) _ (g .accepts-log .ensures) (o .if1 .left) _ _ _
-    (f .0 ∙ ap (λ (n : ℕ). replicate n 0) (r .read-laid .kept .1 .0))
-    (f .1 .0 ∙ ap (λ (n : ℕ). replicate n 0) (r .read-laid .kept .1 .1 .0))
-    (f .1 .1 ∙ ap (λ (n : ℕ). replicate n 0) (r .read-laid .kept .1 .1 .1 .0))
+    plan-not-held (a .plan .now) (a .edges .now) (a .speeds .now) (a .cells .now) _ _ _ _ (front (r .read-room .ensures)) _ _ _ _ (k .x .given .1) _ (g .accepts-log .ensures) (o .if1 .left) _ _ _
+    (f .0 ∙ ap (λ (n : ℕ). replicate n 0) (r .read-room .kept .1 .0))
+    (f .1 .0 ∙ ap (λ (n : ℕ). replicate n 0) (r .read-room .kept .1 .1 .0))
+    (f .1 .1 ∙ ap (λ (n : ℕ). replicate n 0) (r .read-room .kept .1 .1 .1 .0))
 
 pub read-plan-spec : {M : Type 1} → statement M
 read-plan-spec =
     tie.close
     (tie.spec
-    read-laid-requires
+    slice-aggregate-read-room
+    slice-aggregate-read-room-2
+    read-room-requires
     enum-told
     enum-told-2
     enum-known-x
