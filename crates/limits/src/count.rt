@@ -97,8 +97,9 @@ fn put_visits(
     places: &mut [u32],
 ) -> usize
     requires { ⌜ (1 ≤ steps) × (steps ≤ 1024) × (at + steps ≤ length (now cells)) ⌝ }
-    requires { ⌜ n + moves (take steps (drop at (now cells))) < 1408 ⌝ }
-    requires { ⌜ (length (now numbers) ≡ 1408) × (length (now times) ≡ 1408) × (length (now places) ≡ 1408) ⌝ }
+    requires { ⌜ (n + moves (take steps (drop at (now cells))) < length (now numbers))
+        × (n + moves (take steps (drop at (now cells))) < length (now times))
+        × (n + moves (take steps (drop at (now cells))) < length (now places)) ⌝ }
     ensures { λ r. ⌜ r ≡ n + moves (take steps (drop at (now (cells .entry)))) + 1 ⌝ }
     ensures { λ r. ⌜ stops-in (now (numbers .exit)) (now (times .exit)) (now (places .exit)) r 0
         ≡ stops-in (now (numbers .entry)) (now (times .entry)) (now (places .entry)) n 0
@@ -134,8 +135,9 @@ pub(crate) fn put_all(
     places: &mut [u32],
 ) -> usize
     requires { ⌜ (carts ≤ 64) × (1 ≤ steps) × (steps ≤ 1024) × (carts * steps ≤ length (now cells)) ⌝ }
-    requires { ⌜ carts + total moves (paths-in carts steps (now cells)) ≤ 1408 ⌝ }
-    requires { ⌜ (length (now numbers) ≡ 1408) × (length (now times) ≡ 1408) × (length (now places) ≡ 1408) ⌝ }
+    requires { ⌜ (carts + total moves (paths-in carts steps (now cells)) ≤ length (now numbers))
+        × (carts + total moves (paths-in carts steps (now cells)) ≤ length (now times))
+        × (carts + total moves (paths-in carts steps (now cells)) ≤ length (now places)) ⌝ }
     ensures { λ r. ⌜ r ≡ carts + total moves (paths-in carts steps (now (cells .entry))) ⌝ }
     ensures { λ r. ⌜ stops-in (now (numbers .exit)) (now (times .exit)) (now (places .exit)) r 0
         ≡ stops 1 (paths-in carts steps (now (cells .entry))) ⌝ }
@@ -162,7 +164,7 @@ pub(crate) fn is_counted(j: u8, t: u16, c: u32, k: u8, i: u8, s: u16, x: u32) ->
 
 // Links n visits: to each the next whose cell has the same remainder.
 pub(crate) fn link(places: &[u32], n: usize, heads: &mut [u16], nexts: &mut [u16])
-    requires { ⌜ (n ≤ 1408) × (length (now places) ≡ 1408) × (length (now heads) ≡ 1024) × (length (now nexts) ≡ 1408) ⌝ }
+    requires { ⌜ (n ≤ 1408) × (n ≤ length (now places)) × (length (now heads) ≡ 1024) × (n ≤ length (now nexts)) ⌝ }
     requires { ⌜ ((b : ℕ) → b < 1024 → getD (now heads) b 0 ≡ 0) ⌝ }
     ensures { λ _. ⌜ Linked (now (places .entry)) (now (heads .exit)) (now (nexts .exit)) n n ⌝ }
 {

@@ -31,7 +31,7 @@ fn put_bound(ends: &mut [u16], ranges: &mut [u64], k: usize, from: u16, to: u16)
 
 // Whether the next visit after u, from which on `left` of n are left, is of u's cart.
 fn is_same_cart(numbers: &[u8], n: usize, u: usize, left: usize) -> bool
-    requires { ⌜ (n ≤ 1408) × (u < n) × (left ≤ n) × (length (now numbers) ≡ 1408) ⌝ }
+    requires { ⌜ (u < n) × (left ≤ n) × (n ≤ length (now numbers)) ⌝ }
     ensures { λ r. ⌜ r ≡ same-cart (now (numbers .entry)) n u left ⌝ }
 {
     if left == 0 {
@@ -42,7 +42,7 @@ fn is_same_cart(numbers: &[u8], n: usize, u: usize, left: usize) -> bool
 
 // Puts to each of n linked visits the next of its remainder that is of another cart.
 fn put_skips(numbers: &[u8], nexts: &[u16], n: usize, skips: &mut [u16])
-    requires { ⌜ (n ≤ 1408) × (length (now numbers) ≡ 1408) × (length (now nexts) ≡ 1408) × (length (now skips) ≡ 1408) ⌝ }
+    requires { ⌜ (n ≤ length (now numbers)) × (n ≤ length (now nexts)) × (n ≤ length (now skips)) ⌝ }
     requires { ⌜ ((l : ℕ) → l < n → getD (now nexts) (n - suc l) 0 ≤ l) ⌝ }
     ensures { λ _. ⌜ Skipped (now (numbers .entry)) (now (nexts .entry)) (now (skips .exit)) n n ⌝ }
 {
@@ -61,7 +61,7 @@ fn put_skips(numbers: &[u8], nexts: &[u16], n: usize, skips: &mut [u16])
 
 // The next visit to look at after u, one of cart i: none of its cart where that is j or k, which are not counted.
 fn next_after(nexts: &[u16], skips: &[u16], u: usize, i: u8, j: u8, k: u8) -> u16
-    requires { ⌜ (u < 1408) × (length (now nexts) ≡ 1408) × (length (now skips) ≡ 1408) ⌝ }
+    requires { ⌜ (u < length (now nexts)) × (u < length (now skips)) ⌝ }
     ensures { λ r. ⌜ r ≡ next-after (now (nexts .entry)) (now (skips .entry)) u i j k ⌝ }
 {
     if (j == i) | (k == i) {
@@ -86,7 +86,7 @@ fn put_later(
     ranges: &mut [u64],
 ) -> usize
     requires { ⌜ (n ≤ 1408) × (v < n) × ((u : ℕ) → u < n → getD (now numbers) u 0 ≤ u + 1) ⌝ }
-    requires { ⌜ (length (now numbers) ≡ 1408) × (length (now times) ≡ 1408) × (length (now places) ≡ 1408) × (length (now heads) ≡ 1024) × (length (now nexts) ≡ 1408) × (length (now skips) ≡ 1408) × Grouped (now numbers) (now places) (now heads) (now nexts) (now skips) n ⌝ }
+    requires { ⌜ (n ≤ length (now numbers)) × (n ≤ length (now times)) × (n ≤ length (now places)) × (length (now heads) ≡ 1024) × (n ≤ length (now nexts)) × (n ≤ length (now skips)) × Grouped (now numbers) (now places) (now heads) (now nexts) (now skips) n ⌝ }
     requires { ⌜ k + length (bounds-from (now numbers) (now times) (now places) n v) ≤ 90112 ⌝ }
     ensures { λ r. ⌜ r ≡ k + length (bounds-from (now (numbers .entry)) (now (times .entry)) (now (places .entry)) n v) ⌝ }
     ensures { λ _. ⌜ (now (ends .exit) ≡ sets (now (ends .entry)) (2 * k) (flatMap bound-ends (bounds-from (now (numbers .entry)) (now (times .entry)) (now (places .entry)) n v))) × (now (ranges .exit) ≡ sets (now (ranges .entry)) (2 * k) (flatMap bound-range (bounds-from (now (numbers .entry)) (now (times .entry)) (now (places .entry)) n v))) ⌝ }
@@ -125,7 +125,7 @@ fn put_orders(
     ranges: &mut [u64],
 ) -> usize
     requires { ⌜ (n ≤ 1408) × ((u : ℕ) → u < n → getD (now numbers) u 0 ≤ u + 1) ⌝ }
-    requires { ⌜ (length (now numbers) ≡ 1408) × (length (now times) ≡ 1408) × (length (now places) ≡ 1408) × (length (now heads) ≡ 1024) × (length (now nexts) ≡ 1408) × (length (now skips) ≡ 1408) × Grouped (now numbers) (now places) (now heads) (now nexts) (now skips) n ⌝ }
+    requires { ⌜ (n ≤ length (now numbers)) × (n ≤ length (now times)) × (n ≤ length (now places)) × (length (now heads) ≡ 1024) × (n ≤ length (now nexts)) × (n ≤ length (now skips)) × Grouped (now numbers) (now places) (now heads) (now nexts) (now skips) n ⌝ }
     requires { ⌜ length (row-bounds (row-in (now numbers) (now times) (now places) n 0)) ≤ 90112 ⌝ }
     ensures { λ r. ⌜ r ≡ length (row-bounds (row-in (now (numbers .entry)) (now (times .entry)) (now (places .entry)) n 0)) ⌝ }
     ensures { λ _. ⌜ (now (ends .exit) ≡ sets (now (ends .entry)) 0 (flatMap bound-ends (row-bounds (row-in (now (numbers .entry)) (now (times .entry)) (now (places .entry)) n 0)))) × (now (ranges .exit) ≡ sets (now (ranges .entry)) 0 (flatMap bound-range (row-bounds (row-in (now (numbers .entry)) (now (times .entry)) (now (places .entry)) n 0)))) ⌝ }

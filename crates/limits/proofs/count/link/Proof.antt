@@ -11,7 +11,7 @@ use Rattle.limits.proofs.count.link.Tie as tie
 
 abbrev Inv-loop : tie.InvT-loop
 Inv-loop places n heads₀ nexts₀ left₀ heads nexts left =
-    (left ≤ n) × (length heads ≡ 1024) × (length nexts ≡ 1408) × Linked places heads nexts n left
+    (left ≤ n) × (length heads ≡ 1024) × (length nexts ≡ length nexts₀) × Linked places heads nexts n left
 
 abbrev μ-loop : tie.MeasureT-loop
 μ-loop places n heads₀ nexts₀ left₀ heads nexts left = n - left
@@ -19,7 +19,7 @@ abbrev μ-loop : tie.MeasureT-loop
 loop-holds : tie.Need-loop-holds Inv-loop μ-loop
 loop-holds c =
     let a = c .args in
-    (omega arith, c .pre .0 .2, c .pre .0 .3, none-linked (a .places .now) (a .heads .now) (a .nexts .now) (a .n) (c .pre .1))
+    (omega arith, c .pre .0 .2, refl, none-linked (a .places .now) (a .heads .now) (a .nexts .now) (a .n) (c .pre .1))
 
 add-left : tie.Need-add-left Inv-loop μ-loop
 add-left c = search needs

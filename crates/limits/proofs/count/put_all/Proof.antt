@@ -2,7 +2,7 @@
 -- Assumes nothing.
 use Prim.Native.Nat.{ℕ, _+_, _*_, _≤_, _<_, _-_}
 use native.Mathlib.Omega.{arith}
-use mathlib.Core.Path.{_≡_, ap, sym, _∙_}
+use mathlib.Core.Path.{_≡_, refl, ap, sym, _∙_}
 use mathlib.Core.List.{List, _++_, map, append-nil, append-assoc}
 use borrow.Author.Needs.{needs}
 use lib.ListN.{length, take, drop}
@@ -16,7 +16,7 @@ use Rattle.limits.proofs.count.put_all.Tie as tie
 abbrev Inv-loop : tie.InvT-loop
 Inv-loop cells carts steps numbers₀ times₀ places₀ n₀ i₀ at₀ numbers times places n i at =
     (i ≤ carts) × (at + (carts - i) * steps ≡ carts * steps)
-    × (length numbers ≡ 1408) × (length times ≡ 1408) × (length places ≡ 1408)
+    × (length numbers ≡ length numbers₀) × (length times ≡ length times₀) × (length places ≡ length places₀)
     × (n + (carts - i) + total moves (paths-in (carts - i) steps (drop at cells)) ≡ carts + total moves (paths-in carts steps cells))
     × (stops-in numbers times places n 0 ++ stops (i + 1) (paths-in (carts - i) steps (drop at cells)) ≡ stops 1 (paths-in carts steps cells))
 
@@ -32,9 +32,9 @@ loop-holds c =
     let first : paths-in (a .carts - 0) (a .steps) (drop 0 (a .cells .now)) ≡ paths-in (a .carts) (a .steps) (a .cells .now) = from-first (a .carts) (a .steps) (a .cells .now) in (
       omega arith,
       ap (λ (k : ℕ). 0 + k * a .steps) all ∙ omega arith,
-      z .pre .1 .1 .0,
-      z .pre .1 .1 .1,
-      z .pre .1 .1 .2,
+      refl,
+      refl,
+      refl,
       omega (arith, ap (total moves) first),
       ap (stops 1) first,
     )
@@ -52,9 +52,9 @@ put-visits-requires c κs =
     let a = z .args in
     let t : l .loop .i < a .carts = c .before .before .before .loop-test .taken in
     let e : l .loop .n + (a .carts - l .loop .i) + total moves (paths-in (a .carts - l .loop .i) (a .steps) (drop (l .loop .at) (a .cells .now))) ≡ a .carts + total moves (paths-in (a .carts) (a .steps) (a .cells .now)) = l .loop .inv .5 in
-    let p : a .carts + total moves (paths-in (a .carts) (a .steps) (a .cells .now)) ≤ 1408 = z .pre .1 .0 in (
+    let less : l .loop .n + moves (take (a .steps) (drop (l .loop .at) (a .cells .now))) < a .carts + total moves (paths-in (a .carts) (a .steps) (a .cells .now)) = omega (arith, all-moves-cons (a .carts) (l .loop .i) (a .steps) (l .loop .at) (a .cells .now) t) in (
       (omega arith, omega arith, omega (arith, rows-left (a .carts) (l .loop .i) (a .steps) t)),
-      (omega (arith, all-moves-cons (a .carts) (l .loop .i) (a .steps) (l .loop .at) (a .cells .now) t), (l .loop .inv .2, l .loop .inv .3, l .loop .inv .4)),
+      (omega (arith, l .loop .inv .2, z .pre .1 .0), omega (arith, l .loop .inv .3, z .pre .1 .1), omega (arith, l .loop .inv .4, z .pre .1 .2)),
     )
 
 add-at : tie.Need-add-at Inv-loop μ-loop

@@ -15,7 +15,7 @@ use Rattle.limits.proofs.count.put_visits.Tie as tie
 
 abbrev Inv-loop : tie.InvT-loop
 Inv-loop cells at steps j n numbers₀ times₀ places₀ c₀ m₀ s₀ numbers times places c m s =
-    (1 ≤ s) × (s ≤ steps) × (length numbers ≡ 1408) × (length times ≡ 1408) × (length places ≡ 1408)
+    (1 ≤ s) × (s ≤ steps) × (length numbers ≡ length numbers₀) × (length times ≡ length times₀) × (length places ≡ length places₀)
     × (m + moves-after c (steps-from cells at steps s) ≡ n + moves (take steps (drop at cells)) + 1)
     × (stops-in numbers times places m 0 ++ map (stop j) (visits-after c s (steps-from cells at steps s))
     ≡ stops-in numbers₀ times₀ places₀ m₀ 0 ++ map (stop j) (visits-after c₀ 1 (steps-from cells at steps 1)))
@@ -53,11 +53,21 @@ loop-holds c =
     let h : a .at + a .steps ≤ length (a .cells .now) = omega arith in (
       omega arith,
       omega arith,
-      length-set (a .numbers .now) (a .n) (a .j) ∙ c .before .pre .1 .1 .0,
-      length-set (a .times .now) (a .n) 0 ∙ c .before .pre .1 .1 .1,
-      length-set (a .places .now) (a .n) (getD (a .cells .now) (a .at) 0) ∙ c .before .pre .1 .1 .2,
+      refl,
+      refl,
+      refl,
       omega (arith, moves-first (a .cells .now) (a .at) (a .steps) h (omega arith)),
       refl,
+    )
+
+-- the arrays are as long as before
+long : (c : tie.At-loop Inv-loop μ-loop)
+    → let a = c .before .before .args in (length (c .loop .numbers) ≡ length (a .numbers .now)) × (length (c .loop .times) ≡ length (a .times .now)) × (length (c .loop .places) ≡ length (a .places .now))
+long c =
+    let a = c .before .before .args in (
+      c .loop .inv .2 ∙ length-set (a .numbers .now) (a .n) (a .j),
+      c .loop .inv .3 ∙ length-set (a .times .now) (a .n) 0,
+      c .loop .inv .4 ∙ length-set (a .places .now) (a .n) (getD (a .cells .now) (a .at) 0),
     )
 
 add-d : tie.Need-add-d Inv-loop μ-loop
@@ -70,17 +80,19 @@ shared-slice-read-d : tie.Need-shared-slice-read-d Inv-loop μ-loop
 shared-slice-read-d c = search needs
 
 -- there is room for one visit more
-room : (c : tie.Then1 Inv-loop μ-loop) → c .before .before .before .loop .m < 1408
+room : (c : tie.Then1 Inv-loop μ-loop)
+    → let l = c .before .before .before in (l .loop .m < length (l .loop .numbers)) × (l .loop .m < length (l .loop .times)) × (l .loop .m < length (l .loop .places))
 room c =
     let l = c .before .before .before in
     let a = l .before .before .args in
     let h : a .at + a .steps ≤ length (a .cells .now) = omega arith in
     let e : l .loop .m + moves-after (l .loop .c) (steps-from (a .cells .now) (a .at) (a .steps) (l .loop .s)) ≡ a .n + moves (take (a .steps) (drop (a .at) (a .cells .now))) + 1 = l .loop .inv .5 in
-    let p : a .n + moves (take (a .steps) (drop (a .at) (a .cells .now))) < 1408 = l .before .before .pre .1 .0 in
-    omega (arith, moves-move (a .cells .now) (a .at) (a .steps) h (l .loop .c) (l .loop .s) (c .before .before .loop-test .taken) (c .if1 .taken))
+    let p : l .loop .m ≤ a .n + moves (take (a .steps) (drop (a .at) (a .cells .now))) = omega (arith, moves-move (a .cells .now) (a .at) (a .steps) h (l .loop .c) (l .loop .s) (c .before .before .loop-test .taken) (c .if1 .taken)) in
+    let (x, y, z) = long l in
+    (omega (arith, x), omega (arith, y), omega (arith, z))
 
 slice-write-numbers-2 : tie.Need-slice-write-numbers-2 Inv-loop μ-loop
-slice-write-numbers-2 c = omega (arith, room c)
+slice-write-numbers-2 c = room c .0
 
 cast-times : tie.Need-cast-times Inv-loop μ-loop
 cast-times c = search needs
@@ -89,13 +101,13 @@ mul-times-2 : tie.Need-mul-times-2 Inv-loop μ-loop
 mul-times-2 c = search needs
 
 slice-write-times-2 : tie.Need-slice-write-times-2 Inv-loop μ-loop
-slice-write-times-2 c = omega (arith, room c)
+slice-write-times-2 c = room c .1
 
 mul-places-2 : tie.Need-mul-places-2 Inv-loop μ-loop
 mul-places-2 c = search needs
 
 slice-write-places-2 : tie.Need-slice-write-places-2 Inv-loop μ-loop
-slice-write-places-2 c = omega (arith, room c)
+slice-write-places-2 c = room c .2
 
 add-m-2 : tie.Need-add-m-2 Inv-loop μ-loop
 add-m-2 c = search needs
@@ -115,14 +127,14 @@ loop-again c =
     let d : ℕ = getD (a .cells .now) (a .at + l .loop .s) 0 in
     let vs : List Visit = visits-after d (l .loop .s + 1) (steps-from (a .cells .now) (a .at) (a .steps) (l .loop .s + 1)) in
     ⊎-elim
-    (λ w. let r : l .loop .m < 1408 = room (record { before = c .before; if1 = w .0 }) in (
+    (λ w. let (x, y, z) = room (record { before = c .before; if1 = w .0 }) in (
       omega arith,
       omega arith,
       ap (λ (x : List ℕ). length x) (w .1) ∙ length-set (l .loop .numbers) (l .loop .m) (a .j) ∙ l .loop .inv .2,
       ap (λ (x : List ℕ). length x) (w .2) ∙ length-set (l .loop .times) (l .loop .m) (l .loop .s) ∙ l .loop .inv .3,
       ap (λ (x : List ℕ). length x) (w .3) ∙ length-set (l .loop .places) (l .loop .m) d ∙ l .loop .inv .4,
       omega (arith, moves-move (a .cells .now) (a .at) (a .steps) h (l .loop .c) (l .loop .s) t (w .0 .taken)),
-      put-next (l .loop .numbers) (l .loop .times) (l .loop .places) (l .loop .m) (omega arith) (omega arith) (omega arith) (a .j) (l .loop .s) d vs
+      put-next (l .loop .numbers) (l .loop .times) (l .loop .places) (l .loop .m) x y z (a .j) (l .loop .s) d vs
           (c .if1 .numbers) (c .if1 .times) (c .if1 .places) (c .if1 .m) (w .1) (w .2) (w .3) (w .4)
           ∙ ap (λ (v : List Visit). stops-in (l .loop .numbers) (l .loop .times) (l .loop .places) (l .loop .m) 0 ++ map (stop (a .j)) v)
           (sym (visits-move (a .cells .now) (a .at) (a .steps) h (l .loop .c) (l .loop .s) t (w .0 .taken)))
@@ -144,13 +156,13 @@ loop-again c =
     (c .if1 .came)
 
 same-length : tie.Need-same-length Inv-loop μ-loop
-same-length c = search needs
+same-length c = long (c .before) .0
 
 same-length-2 : tie.Need-same-length-2 Inv-loop μ-loop
-same-length-2 c = search needs
+same-length-2 c = long (c .before) .1
 
 same-length-3 : tie.Need-same-length-3 Inv-loop μ-loop
-same-length-3 c = search needs
+same-length-3 c = long (c .before) .2
 
 returns : tie.Need-returns Inv-loop μ-loop
 returns c =
@@ -159,7 +171,6 @@ returns c =
     let h : a .at + a .steps ≤ length (a .cells .now) = omega arith in
     let d : ℕ = getD (a .cells .now) (a .at) 0 in
     let vs : List Visit = visits-after d 1 (steps-from (a .cells .now) (a .at) (a .steps) 1) in
-    let r : a .n < 1408 = omega (arith, l .before .before .pre .1 .0) in
     let all : List Stop = stops-in (l .loop .numbers) (l .loop .times) (l .loop .places) (l .loop .m) 0 in (
       omega (arith, moves-none (a .cells .now) (a .at) (a .steps) h (l .loop .c) (l .loop .s) (c .loop-test .left)),
       sym (append-nil all)

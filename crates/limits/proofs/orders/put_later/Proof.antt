@@ -118,7 +118,7 @@ next-after-requires : tie.Need-next-after-requires Inv-loop μ-loop
 next-after-requires c κs =
     let l = c .before .before .before .before .before .before .before in
     let z = l .before .before .before .before .before .before .before .before .before .before .before .before .before .before in
-    (omega arith, z .pre .1 .0 .4, z .pre .1 .0 .5)
+    (omega arith, omega arith)
 
 -- fewer visits are left, and the next is of the same remainder
 goes : (c : tie.After-next-after Inv-loop μ-loop)

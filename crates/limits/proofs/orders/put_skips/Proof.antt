@@ -2,7 +2,7 @@
 use Prim.Native.Nat.{ℕ, _+_, _≤_, _<_, _-_}
 use native.Mathlib.Numerals.{add-one}
 use native.Mathlib.Omega.{arith}
-use mathlib.Core.Path.{_≡_, sym, _∙_, subst}
+use mathlib.Core.Path.{_≡_, refl, sym, _∙_, subst}
 use mathlib.Core.Bool.{true, false}
 use borrow.Author.Needs.{needs}
 use lib.ListN.{length, getD, length-set}
@@ -13,7 +13,7 @@ use Rattle.limits.proofs.orders.put_skips.Tie as tie
 
 abbrev Inv-loop : tie.InvT-loop
 Inv-loop numbers nexts n skips₀ left₀ skips left =
-    (left ≤ n) × (length skips ≡ 1408) × Skipped numbers nexts skips n left
+    (left ≤ n) × (length skips ≡ length skips₀) × Skipped numbers nexts skips n left
 
 abbrev μ-loop : tie.MeasureT-loop
 μ-loop numbers nexts n skips₀ left₀ skips left = n - left
@@ -22,7 +22,7 @@ loop-holds : tie.Need-loop-holds Inv-loop μ-loop
 loop-holds c =
     let z = c .before .before .before in
     let a = z .args in
-    (omega arith, z .pre .0 .3, none-skipped (a .numbers .now) (a .nexts .now) (a .n) (z .pre .1) (a .skips .now))
+    (omega arith, refl, none-skipped (a .numbers .now) (a .nexts .now) (a .n) (z .pre .1) (a .skips .now))
 
 add-left : tie.Need-add-left Inv-loop μ-loop
 add-left c = search needs
@@ -51,7 +51,7 @@ cast-is-same-cart c = omega (arith, low c)
 is-same-cart-requires : tie.Need-is-same-cart-requires Inv-loop μ-loop
 is-same-cart-requires c κs =
     let z = c .before .before .before .before .before .before in
-    (z .pre .0 .0, omega arith, omega (arith, low c), z .pre .0 .1)
+    (omega arith, omega (arith, low c), z .pre .0 .0)
 
 -- and there is one, where it is of the same cart
 some : (c : tie.Then1 Inv-loop μ-loop)

@@ -54,7 +54,7 @@ put-skips-requires c κs =
     let k = c .before .before .before .before .before in
     let p = k .before .before .before .before .before .before .before in
     let z = p .before .before .before .before .before .before .before in
-    ((omega (arith, z .pre .1, p .put-all .ensures .0), search needs, search needs, search needs), next-low _ _ _ _ (k .link .ensures))
+    ((search needs, search needs, search needs), next-low _ _ _ _ (k .link .ensures))
 
 slice-aggregate-put-orders : tie.Need-slice-aggregate-put-orders
 slice-aggregate-put-orders c = search needs
@@ -85,12 +85,12 @@ put-orders-requires c κs =
       (omega arith, numbers-low (p .put-all .last .1 .1 .1 .0) (p .put-all .last .1 .1 .1 .1 .0) (p .put-all .last .1 .1 .1 .1 .1 .0) (p .put-all .result) (a .carts) (a .steps) (a .cells .now) (z .pre .0 .1) (z .pre .0 .3) (p .put-all .ensures .1)),
       (
         (
-          sym (slice-aggregate-put-orders (c .before .before .before .before .before .before .before)),
-          sym (slice-aggregate-put-orders-2 (c .before .before .before .before .before .before)),
-          sym (slice-aggregate-put-orders-3 (c .before .before .before .before .before)),
+          omega (arith, slice-aggregate-put-orders (c .before .before .before .before .before .before .before)),
+          omega (arith, slice-aggregate-put-orders-2 (c .before .before .before .before .before .before)),
+          omega (arith, slice-aggregate-put-orders-3 (c .before .before .before .before .before)),
           sym (slice-aggregate-put-orders-4 (c .before .before .before .before)),
-          sym (slice-aggregate-put-orders-5 (c .before .before .before)),
-          sym (slice-aggregate-put-orders-6 (c .before .before)),
+          omega (arith, slice-aggregate-put-orders-5 (c .before .before .before)),
+          omega (arith, slice-aggregate-put-orders-6 (c .before .before)),
           record { linked = k .link .ensures; skipped = g .put-skips .ensures },
         ),
         omega (arith, same, orders-numbered (a .carts) (a .steps) (a .cells .now) (z .pre .0 .0) (z .pre .1)),
