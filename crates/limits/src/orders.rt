@@ -153,7 +153,48 @@ fn put_orders(
     k
 }
 
-// Writes the order bounds of all paths; returns how many there are.
+// Writes the order bounds of all paths; returns how many there are. The visits are put and linked in arrays with room for them.
+fn write_in(
+    cells: &[u32],
+    carts: usize,
+    steps: usize,
+    numbers: &mut [u8],
+    times: &mut [u16],
+    places: &mut [u32],
+    nexts: &mut [u16],
+    skips: &mut [u16],
+    ends: &mut [u16],
+    ranges: &mut [u64],
+) -> usize
+    requires { ⌜ (carts ≤ 64) × (1 ≤ steps) × (steps ≤ 1024) × (carts * steps ≤ length (now cells)) ⌝ }
+    requires { ⌜ carts + total moves (paths-in carts steps (now cells)) ≤ 1408 ⌝ }
+    requires { ⌜ (carts + total moves (paths-in carts steps (now cells)) ≤ length (now numbers))
+        × (carts + total moves (paths-in carts steps (now cells)) ≤ length (now times))
+        × (carts + total moves (paths-in carts steps (now cells)) ≤ length (now places))
+        × (carts + total moves (paths-in carts steps (now cells)) ≤ length (now nexts))
+        × (carts + total moves (paths-in carts steps (now cells)) ≤ length (now skips)) ⌝ }
+    ensures { λ r. ⌜ r ≡ length (order-bounds (routes-of (of-paths (paths-in carts steps (now (cells .entry)))))) ⌝ }
+    ensures { λ _. ⌜ now (ends .exit) ≡ sets (now (ends .entry)) 0 (flatMap bound-ends (order-bounds (routes-of (of-paths (paths-in carts steps (now (cells .entry))))))) ⌝ }
+    ensures { λ _. ⌜ now (ranges .exit) ≡ sets (now (ranges .entry)) 0 (flatMap bound-range (order-bounds (routes-of (of-paths (paths-in carts steps (now (cells .entry))))))) ⌝ }
+{
+    let n = count::put_all(cells, carts, steps, numbers, times, places);
+    let mut heads: [u16; 1024] = [0; 1024];
+    count::link(places, n, &mut heads, nexts);
+    put_skips(numbers, nexts, n, skips);
+    put_orders(
+        numbers,
+        times,
+        places,
+        &heads,
+        nexts,
+        skips,
+        n,
+        ends,
+        ranges,
+    )
+}
+
+// The same in arrays that have room for the visits of any plan.
 pub(crate) fn write_orders(
     cells: &[u32],
     carts: usize,
@@ -170,20 +211,50 @@ pub(crate) fn write_orders(
     let mut numbers: [u8; 1408] = [0; 1408];
     let mut times: [u16; 1408] = [0; 1408];
     let mut places: [u32; 1408] = [0; 1408];
-    let n = count::put_all(cells, carts, steps, &mut numbers, &mut times, &mut places);
-    let mut heads: [u16; 1024] = [0; 1024];
     let mut nexts: [u16; 1408] = [0; 1408];
-    count::link(&places, n, &mut heads, &mut nexts);
     let mut skips: [u16; 1408] = [0; 1408];
-    put_skips(&numbers, &nexts, n, &mut skips);
-    put_orders(
-        &numbers,
-        &times,
-        &places,
-        &heads,
-        &nexts,
-        &skips,
-        n,
+    write_in(
+        cells,
+        carts,
+        steps,
+        &mut numbers,
+        &mut times,
+        &mut places,
+        &mut nexts,
+        &mut skips,
+        ends,
+        ranges,
+    )
+}
+
+// The same for at most 128 visits, in arrays that take little time to clear.
+pub(crate) fn write_few(
+    cells: &[u32],
+    carts: usize,
+    steps: usize,
+    ends: &mut [u16],
+    ranges: &mut [u64],
+) -> usize
+    requires { ⌜ (carts ≤ 64) × (1 ≤ steps) × (steps ≤ 1024) × (carts * steps ≤ length (now cells)) ⌝ }
+    requires { ⌜ carts + total moves (paths-in carts steps (now cells)) ≤ 128 ⌝ }
+    ensures { λ r. ⌜ r ≡ length (order-bounds (routes-of (of-paths (paths-in carts steps (now (cells .entry)))))) ⌝ }
+    ensures { λ _. ⌜ now (ends .exit) ≡ sets (now (ends .entry)) 0 (flatMap bound-ends (order-bounds (routes-of (of-paths (paths-in carts steps (now (cells .entry))))))) ⌝ }
+    ensures { λ _. ⌜ now (ranges .exit) ≡ sets (now (ranges .entry)) 0 (flatMap bound-range (order-bounds (routes-of (of-paths (paths-in carts steps (now (cells .entry))))))) ⌝ }
+{
+    let mut numbers: [u8; 128] = [0; 128];
+    let mut times: [u16; 128] = [0; 128];
+    let mut places: [u32; 128] = [0; 128];
+    let mut nexts: [u16; 128] = [0; 128];
+    let mut skips: [u16; 128] = [0; 128];
+    write_in(
+        cells,
+        carts,
+        steps,
+        &mut numbers,
+        &mut times,
+        &mut places,
+        &mut nexts,
+        &mut skips,
         ends,
         ranges,
     )
