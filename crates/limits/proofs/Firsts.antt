@@ -5,8 +5,8 @@ use native.Mathlib.Omega.{arith}
 use mathlib.Core.Path.{_≡_, refl, ap, sym, _∙_, subst}
 use mathlib.Core.Bool.{Bool, true, false, true≢false, not, _&&_, cond}
 use mathlib.Core.List.{List, [], _∷_, _++_, map}
-use borrow.Author.Tests.{le-leb, lt-leb, not-true, not-false}
-use lib.Dec.{T, leb, leb→le}
+use borrow.Author.Tests.{le-leb, lt-leb, lt-ltb, le-ltb, not-true, not-false}
+use lib.Dec.{T, leb, ltb, leb→le}
 use mir.Facts.{and-yes}
 use lib.ListN.{length, take, drop, set, length-drop}
 use lib.Seq.{sets, length-take-le}
@@ -126,11 +126,15 @@ module _ (n w : ℕ) (s : List ℕ) where
   events-steps h e = simp (le-leb n 64 h, lt-leb 1 w (omega arith))
 
   -- the events, by the moves counted
-  pub events-asked : n ≤ 64 → 1 ≤ w → w ≤ 1024 → n * w ≤ length s → (m : ℕ) → m ≡ total moves (paths-in n w s) → leb (2 + n + 3 * m) 4096 ≡ events-kept n w s
+  events-asked : n ≤ 64 → 1 ≤ w → w ≤ 1024 → n * w ≤ length s → (m : ℕ) → m ≡ total moves (paths-in n w s) → leb (2 + n + 3 * m) 4096 ≡ events-kept n w s
   unfolding events-kept
   events-asked h o k l m e =
       let many : 2 + n + 3 * m ≡ event-count (of-paths (paths-in n w s)) = omega (arith, events-counted n w s o l) in
       ap (λ (x : ℕ). leb x 4096) many ∙ simp (le-leb n 64 h, le-leb 1 w o, le-leb w 1024 k, le-leb (n * w) (length s) l)
+
+  -- too many of them
+  pub events-over : n ≤ 64 → 1 ≤ w → w ≤ 1024 → n * w ≤ length s → (m : ℕ) → m ≡ total moves (paths-in n w s) → 4096 < 2 + n + 3 * m → false ≡ events-kept n w s
+  events-over h o k l m e over = sym (lt-leb (2 + n + 3 * m) 4096 over) ∙ events-asked h o k l m e
 
   -- paths that keep them are few enough for the code that numbers them and writes their order bounds
   pub kept-says : (b : Bool) → b ≡ events-kept n w s → not b ≡ false
@@ -146,6 +150,48 @@ module _ (n w : ℕ) (s : List ℕ) where
         (leb→le n 64 few, o, leb→le w 1024 steps, l),
         omega (arith, leb→le (event-count (of-paths (paths-in n w s))) 4096 events, events-counted n w s o l),
       )
+
+  -- ---- the moves of paths that keep the limit, or 4,096
+
+  -- 4,096 where it is not kept
+  pub no-moves : false ≡ events-kept n w s → 4096 ≡ cond (events-kept n w s) (total moves (paths-in n w s)) 4096
+  no-moves e = ap (λ (b : Bool). cond b (total moves (paths-in n w s)) 4096) e
+
+  -- where it is, those counted
+  pub moves-within : n ≤ 64 → 1 ≤ w → w ≤ 1024 → n * w ≤ length s → (m : ℕ) → m ≡ total moves (paths-in n w s) → 2 + n + 3 * m ≤ 4096
+      → m ≡ cond (events-kept n w s) (total moves (paths-in n w s)) 4096
+  moves-within h o k l m e under =
+      let yes : true ≡ events-kept n w s = sym (le-leb (2 + n + 3 * m) 4096 under) ∙ events-asked h o k l m e in
+      e ∙ ap (λ (b : Bool). cond b (total moves (paths-in n w s)) 4096) yes
+
+  -- which are fewer
+  few-moves : events-kept n w s ≡ true → total moves (paths-in n w s) < 4096
+  few-moves e = omega (arith, kept-says true (sym e) refl .1)
+
+  module _ (m : ℕ) (q : m ≡ cond (events-kept n w s) (total moves (paths-in n w s)) 4096) where
+    -- fewer than 4,096 say that it is kept
+    pub moves-fewer : ltb m 4096 ≡ events-kept n w s
+    moves-fewer = ap (λ (x : ℕ). ltb x 4096) q ∙ by (events-kept n w s) refl
+      where
+        by : (b : Bool) → events-kept n w s ≡ b → ltb (cond b (total moves (paths-in n w s)) 4096) 4096 ≡ b
+        by true e = lt-ltb (total moves (paths-in n w s)) 4096 (few-moves e)
+        by false e = le-ltb 4096 4096 (omega arith)
+
+    -- 4,096 say that it is not
+    pub moves-over : m ≡ 4096 → events-kept n w s ≡ false
+    moves-over o = by (events-kept n w s) refl (sym q ∙ o)
+      where
+        by : (b : Bool) → events-kept n w s ≡ b → cond b (total moves (paths-in n w s)) 4096 ≡ 4096 → b ≡ false
+        by true e h = absurd (omega (arith, few-moves e))
+        by false e h = refl
+
+    -- any other number is that of the moves
+    pub moves-kept : (m ≡ 4096 → ⊥) → (events-kept n w s ≡ true) × (m ≡ total moves (paths-in n w s))
+    moves-kept o = by (events-kept n w s) refl q
+      where
+        by : (b : Bool) → events-kept n w s ≡ b → m ≡ cond b (total moves (paths-in n w s)) 4096 → (b ≡ true) × (m ≡ total moves (paths-in n w s))
+        by true e h = (refl, h)
+        by false e h = absurd (o h)
 
 -- 65 places are enough for them
 pub fit-there : (n w : ℕ) (s : List ℕ) → events-fit n w s 65 ≡ events-kept n w s

@@ -4,10 +4,9 @@ use native.Mathlib.Nat.{mul-le-mul-right}
 use native.Mathlib.Omega.{arith}
 use mathlib.Core.Path.{_≡_, refl, ap, sym, _∙_, subst}
 use mathlib.Core.List.{List, [], _∷_, _++_, flatMap}
-use mathlib.Core.Bool.{Bool, true, false, not, cond}
+use mathlib.Core.Bool.{Bool, true, false, cond}
 use lib.ListN.{length, length-append}
 use lib.Seq.{sets, length-sets}
-use borrow.Author.Tests.{not-false, not-true}
 use Rattle.tables.specs.Arrays.{paths-in}
 use Rattle.tables.proofs.PathRecords.{paths-in-length}
 use Rattle.network.specs.Events.{routes-of}
@@ -150,18 +149,17 @@ module _ (n w : ℕ) (s ends ranges : List ℕ) where
       by true = refl
       by false = refl
 
-  module _ (kept : Bool) (q : kept ≡ events-kept n w s) where
-    -- the limit of events is not kept
-    pub orders-over : not kept ≡ true → Left 0 ends ranges
-    unfolding orders-fitting
-    orders-over e = none-fit (ap (λ (b : Bool). cond b (os n w s) []) (sym q ∙ not-true kept e))
+  -- the limit of events is not kept
+  pub orders-over : events-kept n w s ≡ false → Left 0 ends ranges
+  unfolding orders-fitting
+  orders-over e = none-fit (ap (λ (b : Bool). cond b (os n w s) []) e)
 
-    -- else they are written
-    pub orders-fit : not kept ≡ false → (k : ℕ) (ends' ranges' : List ℕ)
-        → k ≡ length (os n w s) → ends' ≡ sets ends 0 (flatMap bound-ends (os n w s)) → ranges' ≡ sets ranges 0 (flatMap bound-range (os n w s)) → Left k ends' ranges'
-    unfolding orders-fitting
-    orders-fit e k ends' ranges' ek ee er =
-        let all : os n w s ≡ orders-fitting n w s = ap (λ (b : Bool). cond b (os n w s) []) (sym (not-false kept e) ∙ q) in (
-          ek ∙ ap (λ (l : List Bound). length l) all,
-          (ee ∙ ap (λ (l : List Bound). sets ends 0 (flatMap bound-ends l)) all, er ∙ ap (λ (l : List Bound). sets ranges 0 (flatMap bound-range l)) all),
-        )
+  -- else they are written
+  pub orders-fit : events-kept n w s ≡ true → (k : ℕ) (ends' ranges' : List ℕ)
+      → k ≡ length (os n w s) → ends' ≡ sets ends 0 (flatMap bound-ends (os n w s)) → ranges' ≡ sets ranges 0 (flatMap bound-range (os n w s)) → Left k ends' ranges'
+  unfolding orders-fitting
+  orders-fit e k ends' ranges' ek ee er =
+      let all : os n w s ≡ orders-fitting n w s = ap (λ (b : Bool). cond b (os n w s) []) (sym e) in (
+        ek ∙ ap (λ (l : List Bound). length l) all,
+        (ee ∙ ap (λ (l : List Bound). sets ends 0 (flatMap bound-ends l)) all, er ∙ ap (λ (l : List Bound). sets ranges 0 (flatMap bound-range l)) all),
+      )

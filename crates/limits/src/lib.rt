@@ -3,12 +3,15 @@ mod count;
 mod orders;
 
 ghost use mathlib.Core.Path.{_≡_};
+ghost use mathlib.Core.Bool.{cond};
 ghost use mathlib.Core.List.{flatMap};
 ghost use lib.ListN.{length};
 ghost use lib.Seq.{sets};
 ghost use Rattle.words.specs.Words.{written};
+ghost use Rattle.tables.specs.Arrays.{paths-in};
 ghost use Rattle.network.specs.BoundArrays.{bound-ends, bound-range};
 ghost use Rattle.limits.specs.Limits.{paths-within};
+ghost use Rattle.limits.specs.Counts.{total, moves};
 ghost use Rattle.limits.specs.Orders.{events-kept, events-fit, firsts-fitting, orders-fitting};
 
 // Whether paths keep the limits of events and bounds: `carts` of them, of `steps` cells each, one after the other.
@@ -28,17 +31,28 @@ pub fn within_limits(cells: &[u32], carts: usize, steps: usize) -> bool
     count::few_orders(cells, carts, steps, moves, 8192 - 2 * carts - 3 * moves)
 }
 
+// The moves of such paths, where there are such, with a step, and they keep the limit of events; else 4,096, more than any that do.
+fn kept_moves(cells: &[u32], carts: usize, steps: usize) -> usize
+    ensures { λ r. ⌜ r ≡ cond (events-kept carts steps (now (cells .entry))) (total moves (paths-in carts steps (now (cells .entry)))) 4096 ⌝ }
+{
+    if !count::all_there(cells, carts, steps) {
+        return 4096;
+    }
+    if steps == 0 {
+        return 4096;
+    }
+    let moves = count::all_moves(cells, carts, steps);
+    if 2 + carts + 3 * moves <= 4096 {
+        return moves;
+    }
+    4096
+}
+
 // Whether there are such paths, with a step, and they keep the limit of events.
 fn keeps_events(cells: &[u32], carts: usize, steps: usize) -> bool
     ensures { λ r. ⌜ r ≡ events-kept carts steps (now (cells .entry)) ⌝ }
 {
-    if !count::all_there(cells, carts, steps) {
-        return false;
-    }
-    if steps == 0 {
-        return false;
-    }
-    2 + carts + 3 * count::all_moves(cells, carts, steps) <= 4096
+    kept_moves(cells, carts, steps) < 4096
 }
 
 // Writes the numbers of the carts' first events to the front of an array, and the finish's behind them; whether there are such.
@@ -57,7 +71,7 @@ pub fn first_events(cells: &[u32], carts: usize, steps: usize, firsts: &mut [u16
 }
 
 // Writes the order bounds of paths to the front of two arrays, as many as there is room for; returns how many there are, 0 where the limit of
-// events is not kept. A cart alone has none.
+// events is not kept. A cart alone has none, and few visits need only short arrays.
 pub fn order_bounds(
     cells: &[u32],
     carts: usize,
@@ -72,8 +86,12 @@ pub fn order_bounds(
     if carts < 2 {
         return 0;
     }
-    if !keeps_events(cells, carts, steps) {
+    let moves = kept_moves(cells, carts, steps);
+    if moves == 4096 {
         return 0;
+    }
+    if carts + moves <= 128 {
+        return orders::write_few(cells, carts, steps, ends, ranges);
     }
     orders::write_orders(cells, carts, steps, ends, ranges)
 }
