@@ -270,13 +270,13 @@ pub fn read_tables(
 }
 
 // Zeros in every place of an array of links.
-pub fn clear_links(s: &mut [u16])
-    ensures { λ _. ⌜ now (s .exit) ≡ replicate (length (now (s .entry))) 0 ⌝ }
+pub fn clear_links(links: &mut [u16])
+    ensures { λ _. ⌜ now (links .exit) ≡ replicate (length (now (links .entry))) 0 ⌝ }
 {
-    let mut i = 0;
-    while i < s.len() {
-        s[i] = 0;
-        i += 1;
+    let mut at = 0;
+    while at < links.len() {
+        links[at] = 0;
+        at += 1;
     }
 }
 
