@@ -4,3 +4,5 @@ pub mod Links
 pub mod Moves
 pub mod Whole
 pub mod Fits
+pub mod Written
+pub mod Outcome

@@ -1,3 +1,4 @@
 pub mod Links
 pub mod Network
 pub mod Writing
+pub mod Bounding

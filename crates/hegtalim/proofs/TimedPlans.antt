@@ -20,8 +20,8 @@ use Rattle.schedule.specs.Lent.{Lent, long-enough}
 use Rattle.slice.specs.PlanSlice.{plan-need, Held, held}
 use Rattle.passes.specs.declared.Solved.{Solved}
 use Rattle.passes.specs.Solving.{Solving}
-use Rattle.timing.specs.declared.Bounding.{Bounding}
-use Rattle.timing.specs.Bounding.{bounding-fits, bounding, bounding-answer, bounds-left, bounding-left}
+use Rattle.bounds.specs.declared.Bounding.{Bounding}
+use Rattle.bounds.specs.Bounding.{bounding-fits, bounding, bounding-answer, bounds-left, bounding-left}
 use Rattle.hegtalim.specs.declared.Timed.{Timed}
 use Rattle.hegtalim.specs.Outcomes.{meets-needs, Timetabled, too-short, no-plan, timed, no-times}
 use Rattle.hegtalim.specs.Working.{Worked, done, no-room}

@@ -1,12 +1,12 @@
 // The calls on a plan. The definitions of what they answer and leave are in specs/.
 use book::Checked;
+use bounds::Bounding;
 use floor::Reason;
 use floor::Refusal;
 use floor::Table;
 use passes::Solved;
 use slice::Holding;
 use tables::Reading;
-use timing::Bounding;
 ghost use mathlib.Core.Path.{_≡_};
 ghost use mathlib.Core.List.{[]};
 ghost use Prim.Native.Nat.{_≤_, _<_};
@@ -205,7 +205,7 @@ fn time_in(
         r
         (record { times = now (times .exit); chain-bounds = now (numbers .exit); chain-directions = now (directions .exit) }) ⌝ }
 {
-    let x = timing::write_held(plan, ends, ranges);
+    let x = bounds::write_held(plan, ends, ranges);
     match x {
         Bounding::TooShort => Timed::TooShort,
         Bounding::NoPlan => Timed::NoPlan,

@@ -1,10 +1,10 @@
--- `timing::write_laid` meets its contract: the tables give no plan, or its bounds are written. Assumes nothing.
+-- `bounds::write_laid` meets its contract: the tables give no plan, or its bounds are written. Assumes nothing.
 use borrow.Author.Needs.{needs}
 use Rattle.slice.proofs.Holds.{unlaid-none}
 use Rattle.slice.proofs.LaidPlan.{never-short, not-laid, laid-there}
-use Rattle.timing.proofs.Written.{none-held}
-use Rattle.timing.proofs.write_laid.Statement.{statement}
-use Rattle.timing.proofs.write_laid.Tie as tie
+use Rattle.bounds.proofs.Written.{none-held}
+use Rattle.bounds.proofs.write_laid.Statement.{statement}
+use Rattle.bounds.proofs.write_laid.Tie as tie
 
 -- where the slices are lent
 abbrev start : tie.After-read-laid → tie.Start

@@ -9,9 +9,9 @@ use lib.ListN.{length, replicate}
 use borrow.Author.Tests.{le-leb, lt-leb}
 use Rattle.network.specs.BoundArrays.{bound-ends, bound-range}
 use Rattle.slice.specs.PlanSlice.{plan-need, Held, held}
-use Rattle.timing.specs.declared.Bounding.{Bounding}
-use Rattle.timing.specs.Bounding.{bounding-fits, bounding, bounding-answer, bounds-left, bounding-left}
-use Rattle.timing.proofs.Written.{Wrote}
+use Rattle.bounds.specs.declared.Bounding.{Bounding}
+use Rattle.bounds.specs.Bounding.{bounding-fits, bounding, bounding-answer, bounds-left, bounding-left}
+use Rattle.bounds.proofs.Written.{Wrote}
 
 -- which case an answer is
 case-of : Bounding → ℕ

@@ -44,9 +44,9 @@ use Rattle.slice.specs.HeldPlan.{log-of, Lays}
 use Rattle.slice.proofs.Laid.{rest-of}
 use Rattle.slice.proofs.Holds.{over, accepted-laid, no-log, is-held}
 use Rattle.slice.proofs.LaidPlan.{read-laid, sound-laid, paths-laid, book-laid, added-laid}
 use Rattle.bounds.specs.declared.Network.{Network}
-use Rattle.timing.specs.declared.Bounding.{Bounding}
-use Rattle.timing.specs.Bounding.{bounding, bounds-left}
+use Rattle.bounds.specs.declared.Bounding.{Bounding}
+use Rattle.bounds.specs.Bounding.{bounding, bounds-left}
 
 -- ---- the plan in arrays
 

@@ -11,7 +11,7 @@ use Rattle.network.specs.Events.{event-count}
 use Rattle.network.specs.Bounds.{Bound, bounds}
 use Rattle.schedule.specs.Added.{all-bounds}
 use Rattle.slice.specs.PlanSlice.{plan-need, Held}
-use Rattle.timing.specs.declared.Bounding.{Bounding}
+use Rattle.bounds.specs.declared.Bounding.{Bounding}
 
 -- a slice is long enough
 unfoldable pub bounding-fits : List ℕ → Bool

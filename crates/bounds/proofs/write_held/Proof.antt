@@ -1,4 +1,4 @@
--- `timing::write_held` meets its contract: the slice is too short, no plan is held and the arrays are cleared, or its bounds are written. Assumes nothing.
+-- `bounds::write_held` meets its contract: the slice is too short, no plan is held and the arrays are cleared, or its bounds are written. Assumes nothing.
 use Prim.Native.Nat.{ℕ}
 use mathlib.Core.Path.{ap, subst, _∙_}
 use mathlib.Core.List.{[], _∷_}
@@ -6,11 +6,11 @@ use lib.ListN.{replicate}
 use types.Run.{OneOf, miss}
 use denote.Enum.Declared.{tagOf}
 use borrow.Author.Needs.{needs}
-use Rattle.timing.specs.declared.Bounding.{Bounding}
-use Rattle.timing.proofs.Bounding.{the-type}
-use Rattle.timing.proofs.Outcome.{short-plan, cleared-plan, written-plan}
-use Rattle.timing.proofs.write_held.Statement.{statement}
-use Rattle.timing.proofs.write_held.Tie as tie
+use Rattle.bounds.specs.declared.Bounding.{Bounding}
+use Rattle.bounds.proofs.Bounding.{the-type}
+use Rattle.bounds.proofs.Outcome.{short-plan, cleared-plan, written-plan}
+use Rattle.bounds.proofs.write_held.Statement.{statement}
+use Rattle.bounds.proofs.write_held.Tie as tie
 
 returns : tie.Need-returns
 returns c = let a = c .before .before .before .before .args in short-plan (a .plan .now) (a .ends .now) (a .ranges .now) (c .if1 .taken)

@@ -1,9 +1,9 @@
--- `timing::write_both` meets its contract: the plan's own bounds are written and counted, and behind them those that its log adds. Assumes nothing.
+-- `bounds::write_both` meets its contract: the plan's own bounds are written and counted, and behind them those that its log adds. Assumes nothing.
 use native.Mathlib.Omega.{arith}
 use borrow.Author.Needs.{needs}
-use Rattle.timing.proofs.Written.{own-unfit, own-over, no-book, more-few, both-written}
-use Rattle.timing.proofs.write_both.Statement.{statement}
-use Rattle.timing.proofs.write_both.Tie as tie
+use Rattle.bounds.proofs.Written.{own-unfit, own-over, no-book, more-few, both-written}
+use Rattle.bounds.proofs.write_both.Statement.{statement}
+use Rattle.bounds.proofs.write_both.Tie as tie
 
 -- where the slices are lent
 abbrev start : tie.After-write-bounds → tie.Start

@@ -1,8 +1,8 @@
--- `timing::write_log` meets its contract: what is written to the parts behind its bounds is stored there. Assumes nothing.
+-- `bounds::write_log` meets its contract: what is written to the parts behind its bounds is stored there. Assumes nothing.
 use borrow.Author.Needs.{needs}
-use Rattle.timing.proofs.Written.{log-left}
-use Rattle.timing.proofs.write_log.Statement.{statement}
-use Rattle.timing.proofs.write_log.Tie as tie
+use Rattle.bounds.proofs.Written.{log-left}
+use Rattle.bounds.proofs.write_log.Statement.{statement}
+use Rattle.bounds.proofs.write_log.Tie as tie
 
 part-requires : tie.Need-part-requires
 part-requires c κs = search needs
