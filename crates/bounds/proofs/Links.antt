@@ -1,26 +1,80 @@
--- Roads linked by remainders: the first road that joins two cells is among those of their remainder, so that no other need be looked at.
--- Assumes nothing.
+-- Roads linked by remainders: those of two cells' remainder, gone through from the last to the first, give the first road that joins the cells, so that no
+-- other need be looked at. Assumes nothing.
 use Prim.Native.Nat.{ℕ, zero, suc, _+_, _*_, _-_, _%_, _≤_, _<_}
-use native.Mathlib.Nat.{add-comm, sub-zero}
-use native.Mathlib.Numerals.{add-one}
+use native.Mathlib.Nat.{add-comm}
 use native.Mathlib.Omega.{arith}
 use mathlib.Core.Path.{_≡_, refl, ap, ap₂, sym, _∙_, subst}
 use mathlib.Core.Logic.{_≢_}
 use mathlib.Core.Bool.{Bool, true, false, cond}
-use mathlib.Core.List.{List}
+use mathlib.Core.List.{List, [], _∷_}
+use mathlib.Core.Option.{Option, none, some, Option·getD}
 use lib.Dec.{eqb}
-use lib.ListN.{length, drop, getD, set}
+use lib.ListN.{drop, getD}
 use lib.Seq.{getD-drop}
 use borrow.Author.Tests.{eqb-false}
-use Rattle.floor.specs.Plan.{Road, joins}
+use Rattle.floor.specs.Plan.{Road, joins, road-between}
 use Rattle.tables.specs.Arrays.{roads-in}
-use Rattle.tables.specs.Index.{bucket}
+use Rattle.tables.specs.Index.{bucket, bucket-at, last-in, Indexed}
+use Rattle.tables.proofs.Indexes.{last-most, last-there}
 use Rattle.tables.proofs.Searches.{both-fail}
-use Rattle.limits.specs.Counts.{left-in, Linked}
-use Rattle.limits.proofs.Links.{left-most, left-there, one-linked}
-use Rattle.bounds.specs.Links.{cell-sums}
 use Rattle.bounds.specs.Writing.{road-of, road-found}
-use Rattle.bounds.proofs.Parts.{cells-of, road-at, road-here, road-later, road-none}
+use Rattle.bounds.proofs.Parts.{cells-of}
+
+-- ---- the first road that joins two cells
+
+-- the road at place i of an array
+abbrev road-at : List ℕ → ℕ → Road
+road-at s i = record { from = getD s (4 * i) 0; to = getD s (4 * i + 1) 0; length = getD s (4 * i + 2) 0; margin = getD s (4 * i + 3) 0 }
+
+-- without the first road
+road-behind : (s : List ℕ) (i : ℕ) → road-at (drop 4 s) i ≡ road-at s (suc i)
+road-behind s i =
+    let d : List ℕ = drop 4 s in
+    let from : 4 + 4 * i ≡ 4 * suc i = omega arith in
+    let to : 4 + (4 * i + 1) ≡ 4 * suc i + 1 = omega arith in
+    let long : 4 + (4 * i + 2) ≡ 4 * suc i + 2 = omega arith in
+    let margin : 4 + (4 * i + 3) ≡ 4 * suc i + 3 = omega arith in
+    ap₂ (λ (x y : ℕ). record { from = x; to = y; length = getD d (4 * i + 2) 0; margin = getD d (4 * i + 3) 0 })
+    (getD-drop 4 s (4 * i) 0 ∙ ap (λ (m : ℕ). getD s m 0) from) (getD-drop 4 s (4 * i + 1) 0 ∙ ap (λ (m : ℕ). getD s m 0) to)
+    ∙ ap₂ (λ (x y : ℕ). record { from = getD s (4 * suc i) 0; to = getD s (4 * suc i + 1) 0; length = x; margin = y })
+    (getD-drop 4 s (4 * i + 2) 0 ∙ ap (λ (m : ℕ). getD s m 0) long) (getD-drop 4 s (4 * i + 3) 0 ∙ ap (λ (m : ℕ). getD s m 0) margin)
+
+-- the first of these roads that joins a and b, or else d
+abbrev found-or : List Road → ℕ → ℕ → Road → Road
+found-or rs a b d = Option·getD (road-between rs a b) d
+
+-- it is the first of all, or one of the others
+found-cons : (r : Road) (rs : List Road) (a b : ℕ) (d : Road) → found-or (r ∷ rs) a b d ≡ cond (joins a b r) r (found-or rs a b d)
+unfolding road-between
+found-cons r rs a b d = by (joins a b r)
+  where
+    by : (t : Bool) → Option·getD (cond t (some r) (road-between rs a b)) d ≡ cond t r (found-or rs a b d)
+    by true = refl
+    by false = refl
+
+-- it is one of those before the last, or else the last
+found-last : (n : ℕ) (s : List ℕ) (a b : ℕ) (d : Road)
+    → found-or (roads-in (suc n) s) a b d ≡ found-or (roads-in n s) a b (cond (joins a b (road-at s n)) (road-at s n) d)
+unfolding roads-in road-between
+found-last zero s a b d = found-cons (road-at s 0) [] a b d
+found-last (suc n) s a b d =
+    let first : Road = road-at s 0 in
+    found-cons first (roads-in (suc n) (drop 4 s)) a b d
+    ∙ ap (cond (joins a b first) first)
+    (found-last n (drop 4 s) a b d ∙ ap (λ (r : Road). found-or (roads-in n (drop 4 s)) a b (cond (joins a b r) r d)) (road-behind s n))
+    ∙ sym (found-cons first (roads-in n (drop 4 s)) a b (cond (joins a b (road-at s (suc n))) (road-at s (suc n)) d))
+
+-- the last joins the cells
+last-here : (n : ℕ) (s : List ℕ) (a b : ℕ) (d : Road) → true ≡ joins a b (cells-of (getD s (4 * n) 0) (getD s (4 * n + 1) 0))
+    → found-or (roads-in (suc n) s) a b d ≡ found-or (roads-in n s) a b (road-at s n)
+unfolding joins
+last-here n s a b d q = found-last n s a b d ∙ ap (λ (t : Bool). found-or (roads-in n s) a b (cond t (road-at s n) d)) (sym q)
+
+-- or does not
+last-passed : (n : ℕ) (s : List ℕ) (a b : ℕ) (d : Road) → false ≡ joins a b (cells-of (getD s (4 * n) 0) (getD s (4 * n + 1) 0))
+    → found-or (roads-in (suc n) s) a b d ≡ found-or (roads-in n s) a b d
+unfolding joins
+last-passed n s a b d q = found-last n s a b d ∙ ap (λ (t : Bool). found-or (roads-in n s) a b (cond t (road-at s n) d)) (sym q)
 
 -- ---- remainders
 
@@ -32,103 +86,98 @@ joins-other x y a b h =
     let back : x ≡ b → y ≡ a → ⊥ = λ p q. h (ap₂ bucket p q ∙ ap (λ (m : ℕ). m % 1024) (add-comm b a)) in
     rw (both-fail x y a b forth, both-fail x y b a back)
 
--- the sum of the cells of the road at place i of an array
-sum-at : (n i : ℕ) (s : List ℕ) → i < n → getD (cell-sums (roads-in n s)) i 0 ≡ getD s (4 * i) 0 + getD s (4 * i + 1) 0
-unfolding cell-sums roads-in
-sum-at zero i s l = absurd (omega arith)
-sum-at (suc n) zero s l = refl
-sum-at (suc n) (suc i) s l =
-    let from : 4 + 4 * i ≡ 4 * suc i = omega arith in
-    let to : 4 + (4 * i + 1) ≡ 4 * suc i + 1 = omega arith in
-    sum-at n i (drop 4 s) (omega arith)
-    ∙ ap₂ _+_ (getD-drop 4 s (4 * i) 0 ∙ ap (λ (m : ℕ). getD s m 0) from) (getD-drop 4 s (4 * i + 1) 0 ∙ ap (λ (m : ℕ). getD s m 0) to)
+-- so those after the last of the cells' remainder are passed over
+found-skip : (s : List ℕ) (a b : ℕ) (d : Road) (n : ℕ) → found-or (roads-in n s) a b d ≡ found-or (roads-in (last-in s (bucket a b) n) s) a b d
+unfolding last-in bucket-at
+found-skip s a b d zero = refl
+found-skip s a b d (suc n) = by (eqb (bucket-at s n) (bucket a b)) refl (found-skip s a b d n)
+  where
+    by : (t : Bool) → eqb (bucket-at s n) (bucket a b) ≡ t → found-or (roads-in n s) a b d ≡ found-or (roads-in (last-in s (bucket a b) n) s) a b d
+        → found-or (roads-in (suc n) s) a b d ≡ found-or (roads-in (cond t (suc n) (last-in s (bucket a b) n)) s) a b d
+    by true e rest = refl
+    by false e rest = last-passed n s a b d (joins-other _ _ a b (eqb-false (bucket-at s n) (bucket a b) e)) ∙ rest
 
-module _ (n : ℕ) (s : List ℕ) where
-  -- the sums that the roads are linked by
-  abbrev sums : List ℕ
-  sums = cell-sums (roads-in n s)
+-- ---- the way through the roads of a remainder
 
-  -- the remainder of the road at place i
-  remainder-at : (i : ℕ) → i < n → getD sums i 0 % 1024 ≡ bucket (getD s (4 * i) 0) (getD s (4 * i + 1) 0)
-  unfolding bucket
-  remainder-at i l = ap (λ (m : ℕ). m % 1024) (sum-at n i s l)
+-- what is asked of a road: its length and its margin
+abbrev asked : Road → Road
+asked d = road-of (d .length) (d .margin)
 
-  -- ---- linking
+-- what stands in where none is found goes by them alone
+asked-or : (o : Option Road) (d e : Road) → asked d ≡ asked e → asked (Option·getD o d) ≡ asked (Option·getD o e)
+asked-or none d e h = h
+asked-or (some r) d e h = refl
 
-  -- one road more, before those that are linked
-  pub one-road-linked : (heads nexts : List ℕ) (left : ℕ) → Linked sums heads nexts n left → left < n → length heads ≡ 1024 → n ≤ length nexts
-      → (r : ℕ) → r ≡ bucket (getD s (4 * (n - (left + 1))) 0) (getD s (4 * (n - (left + 1)) + 1) 0) → r < 1024
-      → Linked sums (set heads r (left + 1)) (set nexts (n - (left + 1)) (getD heads r 0)) n (left + 1)
-  one-road-linked heads nexts left k l long room r e small =
-      one-linked sums heads nexts n left k l r (remainder-at (n - (left + 1)) (omega arith) ∙ sym e) small (omega arith) room
+module _ (n : ℕ) (s : List ℕ) (a b : ℕ) where
+  -- what holds with so many roads left: the last of them is of the cells' remainder, and the first that joins the cells is among them, or else it is as long as
+  -- the road that was met last
+  abbrev pub Way : ℕ → ℕ → ℕ → Type 0
+  Way left long margin =
+      (left ≤ n) × (0 < left → bucket-at s (left - 1) ≡ bucket a b)
+      × (asked (road-found (roads-in n s) a b) ≡ asked (found-or (roads-in left s) a b (road-of long margin)))
 
-  -- ---- the way through the roads of a remainder
+  -- so it is at the last of the remainder among the first m
+  way-at : (m long margin : ℕ) → m ≤ n → asked (road-found (roads-in n s) a b) ≡ asked (found-or (roads-in m s) a b (road-of long margin))
+      → Way (last-in s (bucket a b) m) long margin
+  way-at m long margin h e = (
+    omega (arith, last-most s (bucket a b) m),
+    last-there s (bucket a b) m,
+    e ∙ ap asked (found-skip s a b (road-of long margin) m),
+  )
 
-  module _ (a b : ℕ) where
-    -- the road found among those from place i on
-    abbrev found-from : ℕ → Road
-    found-from i = road-found (roads-in (n - i) (drop (4 * i) s)) a b
+  module _ (heads nexts : List ℕ) (k : Indexed n s heads nexts) where
+    -- at the last road of the remainder
+    pub way-begins : (r : ℕ) → r ≡ bucket a b → r < 1024 → Way (getD heads r 0) 0 0
+    unfolding road-found
+    way-begins r e l =
+        let last : getD heads r 0 ≡ last-in s (bucket a b) n = k .heads-are r l ∙ ap (λ (m : ℕ). last-in s m n) e in
+        subst (λ (m : ℕ). Way m 0 0) (sym last) (way-at n 0 0 (omega arith) refl)
 
-    -- those before the next of the cells' remainder are passed over
-    found-skip : (l i : ℕ) → i + l ≡ n → found-from i ≡ found-from (n - left-in sums (bucket a b) l i)
-    unfolding left-in
-    found-skip zero i e = let same : i ≡ n - 0 = omega arith in ap found-from same
-    found-skip (suc l) i e = by (eqb (getD sums i 0 % 1024) (bucket a b)) refl (found-skip l (suc i) (omega arith))
-      where
-        by : (t : Bool) → eqb (getD sums i 0 % 1024) (bucket a b) ≡ t
-            → found-from (suc i) ≡ found-from (n - left-in sums (bucket a b) l (suc i))
-            → found-from i ≡ found-from (n - cond t (suc l) (left-in sums (bucket a b) l (suc i)))
-        by true q more = let here : i ≡ n - suc l = omega arith in ap found-from here
-        by false q more =
-            let within : i < n = omega arith in
-            let apart : bucket (getD s (4 * i) 0) (getD s (4 * i + 1) 0) ≢ bucket a b = λ p. eqb-false (getD sums i 0 % 1024) (bucket a b) q (remainder-at i within ∙ p) in
-            road-later n i s a b within (joins-other _ _ a b apart) ∙ ap found-from (add-one i) ∙ more
+    module _ (left long margin : ℕ) (w : Way left long margin) (some-left : 0 < left) where
+      -- the next, of the roads before the one at hand
+      next-is : getD nexts (left - 1) 0 ≡ last-in s (bucket a b) (left - 1)
+      next-is = k .nexts-are (left - 1) (omega (arith, w .0)) ∙ ap (λ (m : ℕ). last-in s m (left - 1)) (w .1 some-left)
 
-    -- what holds with so many roads left: the first of them is of the cells' remainder, and the road is found among them
-    abbrev pub Way : ℕ → Type 0
-    Way left = (left ≤ n) × (0 < left → getD sums (n - left) 0 % 1024 ≡ bucket a b) × (road-found (roads-in n s) a b ≡ found-from (n - left))
+      -- fewer are left from there on
+      pub way-less : getD nexts (left - 1) 0 < left
+      way-less = omega (arith, next-is, last-most s (bucket a b) (left - 1))
 
-    -- so it is at the next of the remainder, of the last l roads
-    way-at : (l : ℕ) → l ≤ n → road-found (roads-in n s) a b ≡ found-from (n - l) → Way (left-in sums (bucket a b) l (n - l))
-    way-at l h e = (
-      omega (arith, left-most sums (bucket a b) l (n - l)),
-      left-there sums (bucket a b) n l (n - l) (omega arith),
-      e ∙ found-skip l (n - l) (omega arith),
-    )
+      -- the road at hand is the last of those left
+      at-hand : asked (road-found (roads-in n s) a b) ≡ asked (found-or (roads-in (suc (left - 1)) s) a b (road-of long margin))
+      at-hand = let one : left ≡ suc (left - 1) = omega arith in w .2 ∙ ap (λ (m : ℕ). asked (found-or (roads-in m s) a b (road-of long margin))) one
 
-    module _ (heads nexts : List ℕ) (k : Linked sums heads nexts n n) where
-      -- at the first road of the remainder
-      pub way-begins : (r : ℕ) → r ≡ bucket a b → r < 1024 → Way (getD heads r 0)
-      way-begins r e l =
-          let first : getD heads r 0 ≡ left-in sums (bucket a b) n (n - n) = k .heads-are r l ∙ ap (λ (m : ℕ). left-in sums m n (n - n)) e in
-          let all : 0 ≡ n - n = omega arith in
-          subst Way (sym first) (way-at n (omega arith) (ap (λ (m : ℕ). road-found (roads-in m s) a b) (sym (sub-zero n)) ∙ ap found-from all))
+      -- on to the next
+      way-next : (x y : ℕ) → asked (road-found (roads-in n s) a b) ≡ asked (found-or (roads-in (left - 1) s) a b (road-of x y))
+          → Way (getD nexts (left - 1) 0) x y
+      way-next x y e = subst (λ (m : ℕ). Way m x y) (sym next-is) (way-at (left - 1) x y (omega (arith, w .0)) e)
 
-      module _ (left : ℕ) (w : Way left) (some : 0 < left) where
-        -- the next, of the roads after the one at hand
-        next-is : getD nexts (n - left) 0 ≡ left-in sums (bucket a b) (left - 1) (n - (left - 1))
-        next-is =
-            let here : n - left ≡ n - suc (left - 1) = omega arith in
-            ap (λ (m : ℕ). getD nexts m 0) here
-            ∙ k .nexts-are (left - 1) (omega (arith, w .0))
-            ∙ ap (λ (m : ℕ). left-in sums (getD sums m 0 % 1024) (left - 1) (n - (left - 1))) (sym here)
-            ∙ ap (λ (m : ℕ). left-in sums m (left - 1) (n - (left - 1))) (w .1 some)
+      -- the road at hand joins the cells: its length and margin are taken
+      pub way-here : true ≡ joins a b (cells-of (getD s (4 * (left - 1)) 0) (getD s (4 * (left - 1) + 1) 0))
+          → (x y : ℕ) → x ≡ getD s (4 * (left - 1) + 2) 0 → y ≡ getD s (4 * (left - 1) + 3) 0 → Way (getD nexts (left - 1) 0) x y
+      unfolding road-of
+      way-here q x y e f =
+          let same : asked (road-at s (left - 1)) ≡ asked (road-of x y) = ap₂ road-of (sym e) (sym f) in
+          way-next x y (
+          at-hand
+          ∙ ap asked (last-here (left - 1) s a b (road-of long margin) q)
+          ∙ asked-or (road-between (roads-in (left - 1) s) a b) (road-at s (left - 1)) (road-of x y) same
+          )
 
-        -- fewer are left from there on
-        pub way-less : getD nexts (n - left) 0 < left
-        way-less = omega (arith, next-is, left-most sums (bucket a b) (left - 1) (n - (left - 1)))
+      -- it does not, and what was taken stays
+      pub way-goes : false ≡ joins a b (cells-of (getD s (4 * (left - 1)) 0) (getD s (4 * (left - 1) + 1) 0))
+          → (x y : ℕ) → x ≡ long → y ≡ margin → Way (getD nexts (left - 1) 0) x y
+      way-goes q x y e f =
+          way-next x y (
+          at-hand
+          ∙ ap asked (last-passed (left - 1) s a b (road-of long margin) q)
+          ∙ ap₂ (λ (l m : ℕ). asked (found-or (roads-in (left - 1) s) a b (road-of l m))) (sym e) (sym f)
+          )
 
-        -- the road at hand joins the cells
-        pub way-here : true ≡ joins a b (cells-of (getD s (4 * (n - left)) 0) (getD s (4 * (n - left) + 1) 0)) → road-found (roads-in n s) a b ≡ road-at s (n - left)
-        way-here q = w .2 ∙ road-here n (n - left) s a b (omega (arith, w .0)) q
-
-        -- it does not: on to the next
-        pub way-goes : false ≡ joins a b (cells-of (getD s (4 * (n - left)) 0) (getD s (4 * (n - left) + 1) 0)) → Way (getD nexts (n - left) 0)
-        way-goes q =
-            let within : left ≤ n = w .0 in
-            let after : n - left + 1 ≡ n - (left - 1) = omega arith in
-            subst Way (sym next-is) (way-at (left - 1) (omega arith) (w .2 ∙ road-later n (n - left) s a b (omega arith) q ∙ ap found-from after))
-
-    -- none is left
-    pub way-ends : (left : ℕ) → Way left → left ≤ 0 → road-found (roads-in n s) a b ≡ road-of 0 0
-    way-ends left w h = w .2 ∙ road-none n (n - left) s a b (omega arith)
+  -- none is left
+  pub way-ends : (left long margin : ℕ) → Way left long margin → left ≤ 0
+      → (long ≡ road-found (roads-in n s) a b .length) × (margin ≡ road-found (roads-in n s) a b .margin)
+  unfolding road-of roads-in road-between
+  way-ends left long margin w h =
+      let none-left : left ≡ 0 = omega arith in
+      let e : asked (road-found (roads-in n s) a b) ≡ road-of long margin = w .2 ∙ ap (λ (m : ℕ). asked (found-or (roads-in m s) a b (road-of long margin))) none-left in
+      (ap (λ (d : Road). d .length) (sym e), ap (λ (d : Road). d .margin) (sym e))

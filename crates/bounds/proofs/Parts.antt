@@ -1,22 +1,16 @@
--- The road of a move, found in an array, and the times of its parts. Assumes nothing.
-use Prim.Native.Nat.{ℕ, zero, suc, _+_, _*_, _-_, _/_, _≤_, _<_}
+-- Whether a road joins two cells, and the times of the parts of a move. Assumes nothing.
+use Prim.Native.Nat.{ℕ, zero, suc, _+_, _*_, _-_, _/_}
 use native.Mathlib.Nat.{div-zero}
 use native.Mathlib.Numerals.{add-one}
-use native.Mathlib.Omega.{arith}
 use mathlib.Core.Path.{_≡_, refl, ap, sym, _∙_}
-use mathlib.Core.Bool.{Bool, true, false, cond}
-use mathlib.Core.List.{List, _∷_}
-use mathlib.Core.Option.{some, Option·getD}
+use mathlib.Core.Bool.{true, false}
 use lib.Dec.{eqb}
-use lib.ListN.{drop, getD}
-use lib.Seq.{drop-drop, getD-drop}
 use borrow.Author.Tests.{eq-eqb, ne-eqb}
-use Rattle.floor.specs.Plan.{Road, joins, road-between}
-use Rattle.tables.specs.Arrays.{roads-in}
+use Rattle.floor.specs.Plan.{Road, joins}
 use Rattle.tables.proofs.Searches.{both-fail}
 use Rattle.network.specs.Bounds.{div-up, most-time}
 use Rattle.network.specs.BoundArrays.{hi-number}
-use Rattle.bounds.specs.Writing.{speed-of, road-of, road-found}
+use Rattle.bounds.specs.Writing.{speed-of}
 
 -- ---- a road
 
@@ -38,50 +32,6 @@ joins-back x y a b h p = rw (both-fail x y a b h, eq-eqb x b p)
 pub joins-not : (x y a b : ℕ) → (x ≡ a → y ≡ b → ⊥) → (x ≡ b → ⊥) → false ≡ joins a b (cells-of x y)
 unfolding joins
 joins-not x y a b h p = rw (both-fail x y a b h, ne-eqb x b p)
-
--- the road at place i of an array
-abbrev pub road-at : List ℕ → ℕ → Road
-road-at s i = record { from = getD s (4 * i) 0; to = getD s (4 * i + 1) 0; length = getD s (4 * i + 2) 0; margin = getD s (4 * i + 3) 0 }
-
--- it and those after it
-roads-cons : (n i : ℕ) (s : List ℕ) → i < n → roads-in (n - i) (drop (4 * i) s) ≡ road-at s i ∷ roads-in (n - (i + 1)) (drop (4 * (i + 1)) s)
-unfolding roads-in
-roads-cons n i s l =
-    let one : n - i ≡ suc (n - (i + 1)) = omega arith in
-    let first : 4 * i + 0 ≡ 4 * i = omega arith in
-    let next : 4 * i + 4 ≡ 4 * (i + 1) = omega arith in
-    let d : List ℕ = drop (4 * i) s in
-    let rest : List Road = roads-in (n - (i + 1)) (drop (4 * (i + 1)) s) in
-    ap (λ (m : ℕ). roads-in m (drop (4 * i) s)) one
-    ∙ ap (λ (r : List ℕ). record { from = getD d 0 0; to = getD d 1 0; length = getD d 2 0; margin = getD d 3 0 } ∷ roads-in (n - (i + 1)) r) (drop-drop 4 (4 * i) s ∙ ap (λ (m : ℕ). drop m s) next)
-    ∙ ap (λ (x : ℕ). record { from = x; to = getD d 1 0; length = getD d 2 0; margin = getD d 3 0 } ∷ rest) (getD-drop (4 * i) s 0 0 ∙ ap (λ (m : ℕ). getD s m 0) first)
-    ∙ ap (λ (x : ℕ). record { from = getD s (4 * i) 0; to = x; length = getD d 2 0; margin = getD d 3 0 } ∷ rest) (getD-drop (4 * i) s 1 0)
-    ∙ ap (λ (x : ℕ). record { from = getD s (4 * i) 0; to = getD s (4 * i + 1) 0; length = x; margin = getD d 3 0 } ∷ rest) (getD-drop (4 * i) s 2 0)
-    ∙ ap (λ (x : ℕ). record { from = getD s (4 * i) 0; to = getD s (4 * i + 1) 0; length = getD s (4 * i + 2) 0; margin = x } ∷ rest) (getD-drop (4 * i) s 3 0)
-
-module _ (n i : ℕ) (s : List ℕ) (a b : ℕ) where
-  -- the road at hand is the one
-  pub road-here : i < n → true ≡ joins a b (cells-of (getD s (4 * i) 0) (getD s (4 * i + 1) 0))
-      → road-found (roads-in (n - i) (drop (4 * i) s)) a b ≡ road-at s i
-  unfolding road-found road-between joins
-  road-here l q =
-      let rest : List Road = roads-in (n - (i + 1)) (drop (4 * (i + 1)) s) in
-      ap (λ (rs : List Road). road-found rs a b) (roads-cons n i s l)
-      ∙ ap (λ (t : Bool). Option·getD (cond t (some (road-at s i)) (road-between rest a b)) (road-of 0 0)) (sym q)
-
-  -- it is one of those after it, if any
-  pub road-later : i < n → false ≡ joins a b (cells-of (getD s (4 * i) 0) (getD s (4 * i + 1) 0))
-      → road-found (roads-in (n - i) (drop (4 * i) s)) a b ≡ road-found (roads-in (n - (i + 1)) (drop (4 * (i + 1)) s)) a b
-  unfolding road-found road-between joins
-  road-later l q =
-      let rest : List Road = roads-in (n - (i + 1)) (drop (4 * (i + 1)) s) in
-      ap (λ (rs : List Road). road-found rs a b) (roads-cons n i s l)
-      ∙ ap (λ (t : Bool). Option·getD (cond t (some (road-at s i)) (road-between rest a b)) (road-of 0 0)) (sym q)
-
-  -- none is left
-  pub road-none : n ≤ i → road-found (roads-in (n - i) (drop (4 * i) s)) a b ≡ road-of 0 0
-  unfolding road-found road-between roads-in
-  road-none l = let none : n - i ≡ 0 = omega arith in ap (λ (m : ℕ). road-found (roads-in m (drop (4 * i) s)) a b) none
 
 -- ---- times
 

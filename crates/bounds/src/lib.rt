@@ -20,6 +20,7 @@ ghost use Rattle.limits.specs.Orders.{first-events, events-kept};
 ghost use Rattle.book.specs.Log.{added-of, added-answer};
 ghost use Rattle.slice.specs.PlanSlice.{Held, held};
 ghost use Rattle.slice.specs.HeldPlan.{log-of, Lays};
+ghost use Rattle.bounds.specs.Links.{RoadsLinked};
 ghost use Rattle.bounds.specs.Network.{plan-in, plan-fitting, network-answer, network-bounds};
 ghost use Rattle.bounds.specs.Writing.{start-to, finish-before};
 ghost use Rattle.bounds.specs.Bounding.{bounding-fits, bounding, bounding-answer, bounds-left, bounding-left};
@@ -113,12 +114,15 @@ fn write_all(
     cells: &[u32],
     firsts: &[u16],
     roads: usize,
+    heads: &[u16],
+    nexts: &[u16],
     carts: usize,
     steps: usize,
     ends: &mut [u16],
     ranges: &mut [u64],
 ) -> usize
     requires { ⌜ (roads ≤ 1024) × (4 * roads ≤ length (now edges)) × (2 * carts ≤ length (now speeds)) ⌝ }
+    requires { ⌜ RoadsLinked roads (now edges) (now heads) (now nexts) ⌝ }
     requires { ⌜ events-kept carts steps (now cells) ≡ true ⌝ }
     requires { ⌜ take (carts + 1) (now firsts) ≡ first-events (of-paths (paths-in carts steps (now cells))) ⌝ }
     ensures { λ r. ⌜ r ≡ length (bounds (plan-in roads carts steps (record { edges = now (edges .entry); speeds = now (speeds .entry); cells = now (cells .entry) }))) ⌝ }
@@ -126,11 +130,13 @@ fn write_all(
     ensures { λ _. ⌜ now (ranges .exit) ≡ sets (now (ranges .entry)) 0 (flatMap bound-range (bounds (plan-in roads carts steps (record { edges = now (edges .entry); speeds = now (speeds .entry); cells = now (cells .entry) })))) ⌝ }
 {
     write_starts(firsts, carts, 0, ends, ranges);
-    let k = travel::write_travel(
+    let k = travel::travel_of_all(
         edges,
         speeds,
         cells,
         roads,
+        heads,
+        nexts,
         carts,
         steps,
         carts,
@@ -148,11 +154,14 @@ fn write_bounds(
     speeds: &[u32],
     cells: &[u32],
     roads: usize,
+    heads: &[u16],
+    nexts: &[u16],
     carts: usize,
     steps: usize,
     ends: &mut [u16],
     ranges: &mut [u64],
 ) -> Network
+    requires { ⌜ RoadsLinked roads (now edges) (now heads) (now nexts) ⌝ }
     ensures answer { λ r. ⌜ r ≡ network-answer (plan-fitting roads carts steps (record { edges = now (edges .entry); speeds = now (speeds .entry); cells = now (cells .entry) })) ⌝ }
     ensures left { λ _. ⌜ now (ends .exit) ≡ sets (now (ends .entry)) 0 (flatMap bound-ends (network-bounds (plan-fitting roads carts steps (record { edges = now (edges .entry); speeds = now (speeds .entry); cells = now (cells .entry) })))) ⌝ }
     ensures left_ranges { λ _. ⌜ now (ranges .exit) ≡ sets (now (ranges .entry)) 0 (flatMap bound-range (network-bounds (plan-fitting roads carts steps (record { edges = now (edges .entry); speeds = now (speeds .entry); cells = now (cells .entry) })))) ⌝ }
@@ -176,6 +185,8 @@ fn write_bounds(
         cells,
         &firsts,
         roads,
+        heads,
+        nexts,
         carts,
         steps,
         ends,
@@ -226,6 +237,8 @@ fn write_both(
     speeds: &[u32],
     cells: &[u32],
     roads: usize,
+    heads: &[u16],
+    nexts: &[u16],
     carts: usize,
     steps: usize,
     reports: usize,
@@ -233,11 +246,23 @@ fn write_both(
     ranges: &mut [u64],
 ) -> Bounding
     requires { ⌜ Lays (now plan) (now edges) (now speeds) (now cells) roads carts steps reports ⌝ }
+    requires { ⌜ RoadsLinked roads (now edges) (now heads) (now nexts) ⌝ }
     ensures answer { λ r. ⌜ r ≡ bounding (held (now (plan .entry))) ⌝ }
     ensures left { λ _. ⌜ ((h : Held) → held (now (plan .entry)) ≡ some h → now (ends .exit) ≡ bounds-left bound-ends (some h) (now (ends .entry))) ⌝ }
     ensures left_ranges { λ _. ⌜ ((h : Held) → held (now (plan .entry)) ≡ some h → now (ranges .exit) ≡ bounds-left bound-range (some h) (now (ranges .entry))) ⌝ }
 {
-    let x = write_bounds(edges, speeds, cells, roads, carts, steps, ends, ranges);
+    let x = write_bounds(
+        edges,
+        speeds,
+        cells,
+        roads,
+        heads,
+        nexts,
+        carts,
+        steps,
+        ends,
+        ranges,
+    );
     match x {
         Network::Unfit => Bounding::NoPlan,
         Network::Bounds {
@@ -270,6 +295,8 @@ fn write_laid(plan: &[u8], ends: &mut [u16], ranges: &mut [u64]) -> Bounding
     let mut edges = [0u32; 4096];
     let mut speeds = [0u32; 128];
     let mut cells = [0u32; 8192];
+    let mut heads: [u16; 1024] = [0; 1024];
+    let mut nexts: [u16; 1024] = [0; 1024];
     let x = slice::read_laid(plan, &mut edges, &mut speeds, &mut cells);
     match x {
         Holding::TooShort => Bounding::TooShort,
@@ -279,7 +306,20 @@ fn write_laid(plan: &[u8], ends: &mut [u16], ranges: &mut [u64]) -> Bounding
             carts: c,
             steps: s,
             reports: n,
-        } => write_both(plan, &edges, &speeds, &cells, r, c, s, n, ends, ranges),
+        } => write_both(
+            plan,
+            &edges,
+            &speeds,
+            &cells,
+            r,
+            &heads,
+            &nexts,
+            c,
+            s,
+            n,
+            ends,
+            ranges,
+        ),
     }
 }
 

@@ -2,8 +2,8 @@
 use crate::Track;
 ghost use mathlib.Core.Path.{_≡_};
 ghost use mathlib.Core.List.{flatMap};
-ghost use Prim.Native.Nat.{ℕ, _+_, _*_, _-_, _≤_, _<_};
-ghost use lib.ListN.{length, take, drop, getD};
+ghost use Prim.Native.Nat.{_+_, _*_, _-_, _≤_, _<_};
+ghost use lib.ListN.{length, take, drop};
 ghost use lib.Seq.{sets};
 ghost use Rattle.floor.specs.Plan.{joins};
 ghost use Rattle.tables.specs.Arrays.{roads-in, carts-in, paths-in};
@@ -37,25 +37,8 @@ fn bucket_of(a: u32, b: u32) -> usize
     ((a as u64 + b as u64) % 1024) as usize
 }
 
-// Links the roads, the last first: to each the next of its remainder, by how many roads are left from there on. A move is then looked up among a
-// few roads.
-fn link_roads(edges: &[u32], roads: usize, heads: &mut [u16], nexts: &mut [u16])
-    requires { ⌜ (roads ≤ 1024) × (4 * roads ≤ length (now edges)) × (length (now heads) ≡ 1024) × (length (now nexts) ≡ 1024) ⌝ }
-    requires { ⌜ ((b : ℕ) → b < 1024 → getD (now heads) b 0 ≡ 0) ⌝ }
-    ensures { λ _. ⌜ RoadsLinked roads (now (edges .entry)) (now (heads .exit)) (now (nexts .exit)) ⌝ }
-{
-    let mut left: usize = 0;
-    while left < roads {
-        left += 1;
-        let i = roads - left;
-        let b = bucket_of(edges[4 * i], edges[4 * i + 1]);
-        nexts[i] = heads[b];
-        heads[b] = left as u16;
-    }
-}
-
-// The length and the margin of the road between two cells, 0 where there is none. The roads of their remainder are gone through in the table's
-// order, since the first that joins them counts.
+// The length and the margin of the road between two cells, 0 where there is none. The roads of their remainder are gone through from the last to the
+// first, and of those that join them the one met last is taken, since the first of the table counts.
 fn find_road(edges: &[u32], roads: usize, heads: &[u16], nexts: &[u16], a: u32, b: u32) -> Track
     requires { ⌜ (roads ≤ 1024) × (4 * roads ≤ length (now edges)) ⌝ }
     requires { ⌜ RoadsLinked roads (now edges) (now heads) (now nexts) ⌝ }
@@ -63,19 +46,19 @@ fn find_road(edges: &[u32], roads: usize, heads: &[u16], nexts: &[u16], a: u32, 
     ensures { λ r. ⌜ r .margin ≡ road-found (roads-in roads (now (edges .entry))) a b .margin ⌝ }
 {
     let mut left = heads[bucket_of(a, b)] as usize;
+    let mut long: u32 = 0;
+    let mut margin: u32 = 0;
     while 0 < left {
-        let i = roads - left;
+        let i = left - 1;
         if is_between(edges[4 * i], edges[4 * i + 1], a, b) {
-            return Track {
-                length: edges[4 * i + 2],
-                margin: edges[4 * i + 3],
-            };
+            long = edges[4 * i + 2];
+            margin = edges[4 * i + 3];
         }
         left = nexts[i] as usize;
     }
     Track {
-        length: 0,
-        margin: 0,
+        length: long,
+        margin: margin,
     }
 }
 
@@ -241,8 +224,8 @@ fn travel_of(
     n
 }
 
-// Puts the travel bounds of all carts in two arrays, from the k-th place on, with the roads linked; returns the place behind them.
-fn travel_of_all(
+// Puts the travel bounds of all carts in two arrays, from the k-th place on; returns the place behind them.
+pub(crate) fn travel_of_all(
     edges: &[u32],
     speeds: &[u32],
     cells: &[u32],
@@ -294,44 +277,4 @@ fn travel_of_all(
         i += 1;
     }
     n
-}
-
-// Puts the travel bounds of all carts in two arrays, from the k-th place on; returns the place behind them.
-pub(crate) fn write_travel(
-    edges: &[u32],
-    speeds: &[u32],
-    cells: &[u32],
-    roads: usize,
-    carts: usize,
-    steps: usize,
-    k: usize,
-    ends: &mut [u16],
-    ranges: &mut [u64],
-) -> usize
-    requires { ⌜ (roads ≤ 1024) × (4 * roads ≤ length (now edges)) × (carts ≤ 64) × (2 * carts ≤ length (now speeds)) ⌝ }
-    requires { ⌜ (1 ≤ steps) × (steps ≤ 1024) × (carts * steps ≤ length (now cells)) ⌝ }
-    requires { ⌜ 1 + carts + 3 * total moves (paths-in carts steps (now cells)) ≤ 4096 ⌝ }
-    requires { ⌜ k + 3 * total moves (paths-in carts steps (now cells)) ≤ 8192 ⌝ }
-    ensures { λ r. ⌜ r ≡ k + 3 * total moves (paths-in carts steps (now (cells .entry))) ⌝ }
-    ensures { λ _. ⌜ now (ends .exit) ≡ sets (now (ends .entry)) (2 * k)
-        (flatMap bound-ends (travel-bounds (roads-in roads (now (edges .entry))) (routes 1 1 (carts-in carts (now (speeds .entry))) (paths-in carts steps (now (cells .entry)))))) ⌝ }
-    ensures { λ _. ⌜ now (ranges .exit) ≡ sets (now (ranges .entry)) (2 * k)
-        (flatMap bound-range (travel-bounds (roads-in roads (now (edges .entry))) (routes 1 1 (carts-in carts (now (speeds .entry))) (paths-in carts steps (now (cells .entry)))))) ⌝ }
-{
-    let mut heads: [u16; 1024] = [0; 1024];
-    let mut nexts: [u16; 1024] = [0; 1024];
-    link_roads(edges, roads, &mut heads, &mut nexts);
-    travel_of_all(
-        edges,
-        speeds,
-        cells,
-        roads,
-        &heads,
-        &nexts,
-        carts,
-        steps,
-        k,
-        ends,
-        ranges,
-    )
 }

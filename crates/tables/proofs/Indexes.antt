@@ -96,7 +96,7 @@ last-passed n s a b e = joined-last n s a b ∙ ap (λ (t : Bool). t || joined (
 -- ---- the last road of a remainder
 
 -- it is one of them
-last-most : (s : List ℕ) (b n : ℕ) → last-in s b n ≤ n
+pub last-most : (s : List ℕ) (b n : ℕ) → last-in s b n ≤ n
 unfolding last-in
 last-most s b zero = omega arith
 last-most s b (suc n) = by (eqb (bucket-at s n) b) (last-most s b n)
@@ -106,7 +106,7 @@ last-most s b (suc n) = by (eqb (bucket-at s n) b) (last-most s b n)
     by false h = omega arith
 
 -- it is of that remainder
-last-there : (s : List ℕ) (b n : ℕ) → 0 < last-in s b n → bucket-at s (last-in s b n - 1) ≡ b
+pub last-there : (s : List ℕ) (b n : ℕ) → 0 < last-in s b n → bucket-at s (last-in s b n - 1) ≡ b
 unfolding last-in
 last-there s b zero h = absurd (omega arith)
 last-there s b (suc n) h = by (eqb (bucket-at s n) b) refl h (last-there s b n)

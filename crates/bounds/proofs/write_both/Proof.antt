@@ -7,7 +7,7 @@ use Rattle.bounds.proofs.write_both.Tie as tie
 
 -- where the slices are lent
 abbrev start : tie.After-write-bounds → tie.Start
-start w = w .before .before .before .before .before .before .before .before .before
+start w = w .before .before .before .before .before .before .before .before .before .before .before
 
 -- the plan's own bounds were written
 abbrev own-written : tie.After-known-told → tie.After-write-bounds
@@ -33,7 +33,7 @@ returns c =
     let k = c .before in
     let w = own-written k in
     let a = start w .args in
-    own-over (a .plan .now) (a .edges .now) (a .speeds .now) (a .cells .now) (a .roads) (a .carts) (a .steps) (a .reports) (start w .pre) (a .ends .now) (a .ranges .now)
+    own-over (a .plan .now) (a .edges .now) (a .speeds .now) (a .cells .now) (a .roads) (a .carts) (a .steps) (a .reports) (start w .pre .0) (a .ends .now) (a .ranges .now)
     (w .write-bounds .result) _ _ (w .write-bounds .ensures .0) (w .write-bounds .ensures .1 .0) (w .write-bounds .ensures .1 .1) _ _ (k .before .x .given .1) (c .if1 .taken) _ _
 
 write-log-requires : tie.Need-write-log-requires
@@ -45,8 +45,8 @@ enum-told-2 c = search needs
 enum-known-y : tie.Need-enum-known-y
 enum-known-y c = search needs
 
-add-t27 : tie.Need-add-t27
-add-t27 c =
+add-t29 : tie.Need-add-t29
+add-t29 c =
     let g = c .before .before .before .before .before .before .before in
     let o = g .before .before .before in
     let k = o .before in
@@ -54,7 +54,7 @@ add-t27 c =
     let a = start w .args in
     omega (
       arith,
-      more-few (a .plan .now) (a .edges .now) (a .speeds .now) (a .cells .now) (a .roads) (a .carts) (a .steps) (a .reports) (start w .pre) (a .ends .now) (a .ranges .now)
+      more-few (a .plan .now) (a .edges .now) (a .speeds .now) (a .cells .now) (a .roads) (a .carts) (a .steps) (a .reports) (start w .pre .0) (a .ends .now) (a .ranges .now)
           (w .write-bounds .result) _ _ (w .write-bounds .ensures .0) (w .write-bounds .ensures .1 .0) (w .write-bounds .ensures .1 .1) _ _ (k .before .x .given .1) (o .if1 .left) (g .write-log .result) _ _ (g .write-log .ensures .0) (g .write-log .ensures .1 .0) (g .write-log .ensures .1 .1) _ (c .before .y .given .1),
     )
 
@@ -68,7 +68,7 @@ returns-2 : tie.Need-returns-2
 returns-2 c =
     let w = c .before .before .before .before .before .before in
     let a = start w .args in
-    own-unfit (a .plan .now) (a .edges .now) (a .speeds .now) (a .cells .now) (a .roads) (a .carts) (a .steps) (a .reports) (start w .pre) (a .ends .now) (a .ranges .now)
+    own-unfit (a .plan .now) (a .edges .now) (a .speeds .now) (a .cells .now) (a .roads) (a .carts) (a .steps) (a .reports) (start w .pre .0) (a .ends .now) (a .ranges .now)
     (w .write-bounds .result) _ _ (w .write-bounds .ensures .0) (w .write-bounds .ensures .1 .0) (w .write-bounds .ensures .1 .1) (c .enum-told .given .1) _ _
 
 same-length-5 : tie.Need-same-length-5
@@ -84,7 +84,7 @@ returns-3 c =
     let k = o .before in
     let w = own-written k in
     let a = start w .args in
-    no-book (a .plan .now) (a .edges .now) (a .speeds .now) (a .cells .now) (a .roads) (a .carts) (a .steps) (a .reports) (start w .pre) (a .ends .now) (a .ranges .now)
+    no-book (a .plan .now) (a .edges .now) (a .speeds .now) (a .cells .now) (a .roads) (a .carts) (a .steps) (a .reports) (start w .pre .0) (a .ends .now) (a .ranges .now)
     (w .write-bounds .result) _ _ (w .write-bounds .ensures .0) (w .write-bounds .ensures .1 .0) (w .write-bounds .ensures .1 .1) _ _ (k .before .x .given .1) (o .if1 .left) (g .write-log .result) _ _ (g .write-log .ensures .0) (g .write-log .ensures .1 .0) (g .write-log .ensures .1 .1) (c .enum-told2 .given .1) _ _
 
 same-length-7 : tie.Need-same-length-7
@@ -100,7 +100,7 @@ returns-4 c =
     let k = o .before in
     let w = own-written k in
     let a = start w .args in
-    both-written (a .plan .now) (a .edges .now) (a .speeds .now) (a .cells .now) (a .roads) (a .carts) (a .steps) (a .reports) (start w .pre) (a .ends .now) (a .ranges .now)
+    both-written (a .plan .now) (a .edges .now) (a .speeds .now) (a .cells .now) (a .roads) (a .carts) (a .steps) (a .reports) (start w .pre .0) (a .ends .now) (a .ranges .now)
     (w .write-bounds .result) _ _ (w .write-bounds .ensures .0) (w .write-bounds .ensures .1 .0) (w .write-bounds .ensures .1 .1) _ _ (k .before .x .given .1) (o .if1 .left) (g .write-log .result) _ _ (g .write-log .ensures .0) (g .write-log .ensures .1 .0) (g .write-log .ensures .1 .1) _ (c .before .y .given .1)
 
 pub write-both-spec : {M : Type 1} → statement M
@@ -116,7 +116,7 @@ write-both-spec =
     write-log-requires
     enum-told-2
     enum-known-y
-    add-t27
+    add-t29
     same-length-3
     same-length-4
     returns-2

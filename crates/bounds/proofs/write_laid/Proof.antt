@@ -40,13 +40,21 @@ slice-aggregate-write-both-2 c = search needs
 slice-aggregate-write-both-3 : tie.Need-slice-aggregate-write-both-3
 slice-aggregate-write-both-3 c = search needs
 
+slice-aggregate-write-both-4 : tie.Need-slice-aggregate-write-both-4
+slice-aggregate-write-both-4 c = search needs
+
+slice-aggregate-write-both-5 : tie.Need-slice-aggregate-write-both-5
+slice-aggregate-write-both-5 c = search needs
+
 write-both-requires : tie.Need-write-both-requires
 write-both-requires c κs =
-    let k = c .before .before .before .before .before .before in
+    let k = c .before .before .before .before .before .before .before .before in
     let r = k .before .before .before .before .before in
-    let b = start r in
-    laid-there (b .args .plan .now) (b .pre) (r .read-laid .result) (r .read-laid .ensures .0) _ _ _ (r .read-laid .ensures .1 .0) (r .read-laid .ensures .1 .1 .0) (r .read-laid .ensures .1 .1 .1)
-    _ _ _ _ (k .x .given .1)
+    let b = start r in (
+      laid-there (b .args .plan .now) (b .pre) (r .read-laid .result) (r .read-laid .ensures .0) _ _ _ (r .read-laid .ensures .1 .0) (r .read-laid .ensures .1 .1 .0) (r .read-laid .ensures .1 .1 .1)
+          _ _ _ _ (k .x .given .1),
+      (search needs, search needs, ?),
+    )
 
 returns : tie.Need-returns
 returns c =
@@ -83,6 +91,8 @@ write-laid-spec =
     slice-aggregate-write-both
     slice-aggregate-write-both-2
     slice-aggregate-write-both-3
+    slice-aggregate-write-both-4
+    slice-aggregate-write-both-5
     write-both-requires
     returns
     returns-2

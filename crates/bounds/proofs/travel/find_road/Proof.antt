@@ -1,22 +1,19 @@
 -- `bounds::travel::find_road` meets its contract. The loop's invariant: the road at hand is of the cells' remainder, and the first that joins the
--- cells is among those left. Assumes nothing.
+-- cells is among those left, or else it is the one that was met last. Assumes nothing.
 use Prim.Native.Nat.{_-_}
 use native.Mathlib.Omega.{arith}
-use mathlib.Core.Path.{_≡_, ap, sym, _∙_}
+use mathlib.Core.Path.{sym, _∙_}
+use mathlib.Core.Logic.{⊎-elim}
 use borrow.Author.Needs.{needs}
-use Rattle.floor.specs.Plan.{Road}
-use Rattle.tables.specs.Arrays.{roads-in}
-use Rattle.bounds.specs.Writing.{road-of, road-found}
-use Rattle.bounds.proofs.Parts.{road-at}
 use Rattle.bounds.proofs.Links.{Way, way-begins, way-less, way-here, way-goes, way-ends}
 use Rattle.bounds.proofs.travel.find_road.Statement.{statement}
 use Rattle.bounds.proofs.travel.find_road.Tie as tie
 
 abbrev Inv-loop : tie.InvT-loop
-Inv-loop edges roads heads nexts a b left₀ left = Way roads edges a b left
+Inv-loop edges roads heads nexts a b left₀ long₀ margin₀ left long margin = Way roads edges a b left long margin
 
 abbrev μ-loop : tie.MeasureT-loop
-μ-loop edges roads heads nexts a b left₀ left = left
+μ-loop edges roads heads nexts a b left₀ long₀ margin₀ left long margin = left
 
 bucket-of-requires : tie.Need-bucket-of-requires Inv-loop μ-loop
 bucket-of-requires c κs = search needs
@@ -64,40 +61,29 @@ shared-slice-read-is-between-2 c = search needs
 is-between-requires : tie.Need-is-between-requires Inv-loop μ-loop
 is-between-requires c κs = search needs
 
-mul-t24 : tie.Need-mul-t24 Inv-loop μ-loop
-mul-t24 c = search needs
+mul-long : tie.Need-mul-long Inv-loop μ-loop
+mul-long c = search needs
 
-add-t25 : tie.Need-add-t25 Inv-loop μ-loop
-add-t25 c = search needs
+add-long : tie.Need-add-long Inv-loop μ-loop
+add-long c = search needs
 
-mul-t26 : tie.Need-mul-t26 Inv-loop μ-loop
-mul-t26 c = search needs
+mul-long-2 : tie.Need-mul-long-2 Inv-loop μ-loop
+mul-long-2 c = search needs
 
-shared-slice-read-t28 : tie.Need-shared-slice-read-t28 Inv-loop μ-loop
-shared-slice-read-t28 c = search needs
+shared-slice-read-long : tie.Need-shared-slice-read-long Inv-loop μ-loop
+shared-slice-read-long c = search needs
 
-mul-t29 : tie.Need-mul-t29 Inv-loop μ-loop
-mul-t29 c = search needs
+mul-margin : tie.Need-mul-margin Inv-loop μ-loop
+mul-margin c = search needs
 
-add-t30 : tie.Need-add-t30 Inv-loop μ-loop
-add-t30 c = search needs
+add-margin : tie.Need-add-margin Inv-loop μ-loop
+add-margin c = search needs
 
-mul-t31 : tie.Need-mul-t31 Inv-loop μ-loop
-mul-t31 c = search needs
+mul-margin-2 : tie.Need-mul-margin-2 Inv-loop μ-loop
+mul-margin-2 c = search needs
 
-shared-slice-read-t33 : tie.Need-shared-slice-read-t33 Inv-loop μ-loop
-shared-slice-read-t33 c = search needs
-
-returns : tie.Need-returns Inv-loop μ-loop
-returns c =
-    let t = c .before .before in
-    let l = t .before .before .before .before .before in
-    let z = l .before .before .before .before .before .before in
-    let a = z .args in
-    let r : road-found (roads-in (a .roads) (a .edges .now)) (a .a) (a .b) ≡ road-at (a .edges .now) (a .roads - l .loop .left) =
-    way-here (a .roads) (a .edges .now) (a .a) (a .b) (a .heads .now) (a .nexts .now) (z .pre .1 .2) (l .loop .left) (l .loop .inv) (omega arith)
-    (sym (t .if1 .taken) ∙ t .before .is-between .ensures) in
-    (ap (λ (d : Road). d .length) (sym r), ap (λ (d : Road). d .margin) (sym r))
+shared-slice-read-margin : tie.Need-shared-slice-read-margin Inv-loop μ-loop
+shared-slice-read-margin c = search needs
 
 mul-left-2 : tie.Need-mul-left-2 Inv-loop μ-loop
 mul-left-2 c = search needs
@@ -106,17 +92,14 @@ shared-slice-read-left-2 : tie.Need-shared-slice-read-left-2 Inv-loop μ-loop
 shared-slice-read-left-2 c = search needs
 
 cast-left-2 : tie.Need-cast-left-2 Inv-loop μ-loop
-cast-left-2 c =
-    let l = c .before .before .before .before .before .before in
-    let a = l .before .before .before .before .before .before .args in
-    omega (arith, c .shared-slice-known9 .given (a .roads - l .loop .left))
+cast-left-2 c = omega (arith, c .shared-slice-known9 .given (c .before .before .before .before .before .before .loop .left - 1))
 
 loop-less : tie.Need-loop-less Inv-loop μ-loop
 loop-less c =
     let l = c .before .before .before .before .before .before in
     let z = l .before .before .before .before .before .before in
     let a = z .args in
-    way-less (a .roads) (a .edges .now) (a .a) (a .b) (a .heads .now) (a .nexts .now) (z .pre .1 .2) (l .loop .left) (l .loop .inv) (omega arith)
+    way-less (a .roads) (a .edges .now) (a .a) (a .b) (a .heads .now) (a .nexts .now) (z .pre .1 .2) (l .loop .left) (l .loop .long) (l .loop .margin) (l .loop .inv) (omega arith)
 
 loop-again : tie.Need-loop-again Inv-loop μ-loop
 loop-again c =
@@ -124,18 +107,20 @@ loop-again c =
     let l = t .before .before .before .before .before in
     let z = l .before .before .before .before .before .before in
     let a = z .args in
-    way-goes (a .roads) (a .edges .now) (a .a) (a .b) (a .heads .now) (a .nexts .now) (z .pre .1 .2) (l .loop .left) (l .loop .inv) (omega arith)
-    (sym (t .if1 .left) ∙ t .before .is-between .ensures)
+    ⊎-elim
+    (λ w.
+    way-here (a .roads) (a .edges .now) (a .a) (a .b) (a .heads .now) (a .nexts .now) (z .pre .1 .2) (l .loop .left) (l .loop .long) (l .loop .margin) (l .loop .inv) (omega arith)
+    (sym (w .0 .taken) ∙ t .before .is-between .ensures) (t .if1 .long) (t .if1 .margin) (w .3) (w .4))
+    (λ w.
+    way-goes (a .roads) (a .edges .now) (a .a) (a .b) (a .heads .now) (a .nexts .now) (z .pre .1 .2) (l .loop .left) (l .loop .long) (l .loop .margin) (l .loop .inv) (omega arith)
+    (sym (w .0 .left) ∙ t .before .is-between .ensures) (t .if1 .long) (t .if1 .margin) (w .1) (w .2))
+    (t .if1 .came)
 
-returns-2 : tie.Need-returns-2 Inv-loop μ-loop
-unfolding road-of
-returns-2 c =
+returns : tie.Need-returns Inv-loop μ-loop
+returns c =
     let l = c .before in
-    let z = l .before .before .before .before .before .before in
-    let a = z .args in
-    let r : road-found (roads-in (a .roads) (a .edges .now)) (a .a) (a .b) ≡ road-of 0 0 =
-    way-ends (a .roads) (a .edges .now) (a .a) (a .b) (l .loop .left) (l .loop .inv) (c .loop-test .left) in
-    (ap (λ (d : Road). d .length) (sym r), ap (λ (d : Road). d .margin) (sym r))
+    let a = l .before .before .before .before .before .before .args in
+    way-ends (a .roads) (a .edges .now) (a .a) (a .b) (l .loop .left) (l .loop .long) (l .loop .margin) (l .loop .inv) (c .loop-test .left)
 
 pub find-road-spec : {M : Type 1} → statement M
 find-road-spec =
@@ -157,18 +142,17 @@ find-road-spec =
     mul-is-between-4
     shared-slice-read-is-between-2
     is-between-requires
-    mul-t24
-    add-t25
-    mul-t26
-    shared-slice-read-t28
-    mul-t29
-    add-t30
-    mul-t31
-    shared-slice-read-t33
-    returns
+    mul-long
+    add-long
+    mul-long-2
+    shared-slice-read-long
+    mul-margin
+    add-margin
+    mul-margin-2
+    shared-slice-read-margin
     mul-left-2
     shared-slice-read-left-2
     cast-left-2
     loop-less
     loop-again
-    returns-2)
+    returns)
