@@ -1,5 +1,5 @@
 -- What is answered and left of a plan in arrays, by what fits. Assumes nothing.
-use Prim.Native.Nat.{ℕ, _*_, _≤_, _<_}
+use Prim.Native.Nat.{ℕ, _*_, _≤_}
 use mathlib.Core.Path.{_≡_, refl, ap, sym, _∙_}
 use mathlib.Core.Bool.{Bool, true, false, _&&_, cond}
 use mathlib.Core.List.{List, flatMap}
@@ -7,7 +7,7 @@ use mathlib.Core.Option.{Option, none, some}
 use lib.Dec.{leb}
 use lib.ListN.{length}
 use lib.Seq.{sets}
-use borrow.Author.Tests.{le-leb, lt-leb}
+use borrow.Author.Tests.{le-leb}
 use Rattle.floor.specs.Plan.{Plan}
 use Rattle.network.specs.Bounds.{bounds}
 use Rattle.network.specs.BoundArrays.{bound-ends, bound-range}
@@ -16,9 +16,6 @@ use Rattle.bounds.specs.declared.Network.{Network}
 use Rattle.bounds.specs.Network.{Numbers, plan-in, network-fits, plan-fitting, network-answer, network-bounds}
 
 -- one that does not pass
-fails-left : (a b : Bool) → a ≡ false → (a && b) ≡ false
-fails-left a b e = ap (λ (x : Bool). x && b) e
-
 fails-right : (a b : Bool) → b ≡ false → (a && b) ≡ false
 fails-right true b e = e
 fails-right false b e = refl
@@ -39,37 +36,10 @@ module _ (roads carts w : ℕ) (a : Numbers) (ends ranges : List ℕ) where
         (ap (λ (o : Option Plan). sets ends 0 (flatMap bound-ends (network-bounds o))) (sym given), ap (λ (o : Option Plan). sets ranges 0 (flatMap bound-range (network-bounds o))) (sym given)),
       )
 
-  -- the tests, as far as each
-  abbrev to-edges : Bool
-  to-edges = leb roads 1024 && leb (4 * roads) (length (a .edges))
-
-  abbrev to-speeds : Bool
-  to-speeds = to-edges && leb (2 * carts) (length (a .speeds))
-
-  -- those before it
-  from-speeds : to-speeds ≡ false → Writes Network.Unfit ends ranges
-  unfolding network-fits
-  from-speeds e = unfit (fails-left to-speeds (events-kept carts w (a .cells)) e)
-
-  from-edges : to-edges ≡ false → Writes Network.Unfit ends ranges
-  from-edges e = from-speeds (fails-left to-edges (leb (2 * carts) (length (a .speeds))) e)
-
-  -- too many roads
-  pub many-roads : 1024 < roads → Writes Network.Unfit ends ranges
-  many-roads h = from-edges (fails-left (leb roads 1024) (leb (4 * roads) (length (a .edges))) (lt-leb roads 1024 h))
-
-  -- not all roads there
-  pub few-edges : length (a .edges) < 4 * roads → Writes Network.Unfit ends ranges
-  few-edges h = from-edges (fails-right (leb roads 1024) (leb (4 * roads) (length (a .edges))) (lt-leb (4 * roads) (length (a .edges)) h))
-
-  -- not all speeds
-  pub few-speeds : length (a .speeds) < 2 * carts → Writes Network.Unfit ends ranges
-  few-speeds h = from-speeds (fails-right to-edges (leb (2 * carts) (length (a .speeds))) (lt-leb (2 * carts) (length (a .speeds)) h))
-
   -- the limits of paths and events are not kept
   pub over-limits : events-kept carts w (a .cells) ≡ false → Writes Network.Unfit ends ranges
   unfolding network-fits
-  over-limits e = unfit (fails-right to-speeds (events-kept carts w (a .cells)) e)
+  over-limits e = unfit (fails-right (leb roads 1024 && leb (4 * roads) (length (a .edges)) && leb (2 * carts) (length (a .speeds))) (events-kept carts w (a .cells)) e)
 
   -- all fits
   pub all-fits : roads ≤ 1024 → 4 * roads ≤ length (a .edges) → 2 * carts ≤ length (a .speeds) → events-kept carts w (a .cells) ≡ true

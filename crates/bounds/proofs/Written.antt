@@ -90,6 +90,10 @@ module _ (s edges speeds cells : List ℕ) (roads carts w reports : ℕ) (h : La
       let long : length speeds ≡ 128 = ap length (h .speeds-are) ∙ padded-length 128 (flatMap cart-numbers (its .carts)) (omega arith) in
       omega (arith, h .carts-are)
 
+  -- and there are not too many roads
+  pub all-there : (roads ≤ 1024) × (4 * roads ≤ length edges) × (2 * carts ≤ length speeds)
+  all-there = (omega (arith, h .roads-are, plan-roads (tables-in s) its its-read), edges-long, speeds-long)
+
   -- the plan in the arrays fits, where it does, and is this one
   fits-by : (t : Bool) → network-fits roads carts w (record { edges = edges; speeds = speeds; cells = cells }) ≡ t
       → plan-fitting roads carts w (record { edges = edges; speeds = speeds; cells = cells }) ≡ cond t (some its) none
@@ -101,13 +105,12 @@ module _ (s edges speeds cells : List ℕ) (roads carts w reports : ℕ) (h : La
   plan-fits : limits-kept its ≡ true → plan-fitting roads carts w (record { edges = edges; speeds = speeds; cells = cells }) ≡ some its
   unfolding network-fits
   plan-fits kept =
-      let few : roads ≤ 1024 = omega (arith, h .roads-are, plan-roads (tables-in s) its its-read) in
       let events : events-kept carts w cells ≡ true =
       ap (λ (n : ℕ). events-kept n w cells) (h .carts-are)
       ∙ ap (λ (n : ℕ). events-kept (length (its .carts)) n cells) (h .steps-are)
       ∙ ap (events-kept (length (its .carts)) (steps (its .paths))) (h .cells-are)
       ∙ events-kept-in (tables-in s) its its-read kept 8192 (lit≤ tt) .0 in
-      fits-by true (simp (le-leb roads 1024 few, le-leb (4 * roads) (length edges) edges-long, le-leb (2 * carts) (length speeds) speeds-long, events))
+      fits-by true (simp (le-leb roads 1024 (all-there .0), le-leb (4 * roads) (length edges) edges-long, le-leb (2 * carts) (length speeds) speeds-long, events))
 
   -- one that fits keeps the limit of events
   fitting-events : network-fits roads carts w (record { edges = edges; speeds = speeds; cells = cells }) ≡ true → event-count its ≤ 4096

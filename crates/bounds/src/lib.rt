@@ -148,7 +148,8 @@ fn write_all(
     j + carts
 }
 
-// Writes the bounds of a plan to the front of two arrays, as many as there is room for: start, travel, order and finish bounds.
+// Writes the bounds of a plan to the front of two arrays, as many as there is room for: start, travel, order and finish bounds. Where there are too many
+// events it writes none.
 fn write_bounds(
     edges: &[u32],
     speeds: &[u32],
@@ -161,22 +162,14 @@ fn write_bounds(
     ends: &mut [u16],
     ranges: &mut [u64],
 ) -> Network
+    requires { ⌜ (roads ≤ 1024) × (4 * roads ≤ length (now edges)) × (2 * carts ≤ length (now speeds)) ⌝ }
     requires { ⌜ RoadsLinked roads (now edges) (now heads) (now nexts) ⌝ }
     ensures answer { λ r. ⌜ r ≡ network-answer (plan-fitting roads carts steps (record { edges = now (edges .entry); speeds = now (speeds .entry); cells = now (cells .entry) })) ⌝ }
     ensures left { λ _. ⌜ now (ends .exit) ≡ sets (now (ends .entry)) 0 (flatMap bound-ends (network-bounds (plan-fitting roads carts steps (record { edges = now (edges .entry); speeds = now (speeds .entry); cells = now (cells .entry) })))) ⌝ }
     ensures left_ranges { λ _. ⌜ now (ranges .exit) ≡ sets (now (ranges .entry)) 0 (flatMap bound-range (network-bounds (plan-fitting roads carts steps (record { edges = now (edges .entry); speeds = now (speeds .entry); cells = now (cells .entry) })))) ⌝ }
 {
-    if 1024 < roads {
-        return Network::Unfit;
-    }
-    if edges.len() < 4 * roads {
-        return Network::Unfit;
-    }
     let mut firsts = [0u16; 65];
     if !limits::first_events(cells, carts, steps, &mut firsts) {
-        return Network::Unfit;
-    }
-    if speeds.len() < 2 * carts {
         return Network::Unfit;
     }
     let n = write_all(

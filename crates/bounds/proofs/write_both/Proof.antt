@@ -1,7 +1,7 @@
 -- `bounds::write_both` meets its contract: the plan's own bounds are written and counted, and behind them those that its log adds. Assumes nothing.
 use native.Mathlib.Omega.{arith}
 use borrow.Author.Needs.{needs}
-use Rattle.bounds.proofs.Written.{own-unfit, own-over, no-book, more-few, both-written}
+use Rattle.bounds.proofs.Written.{all-there, own-unfit, own-over, no-book, more-few, both-written}
 use Rattle.bounds.proofs.write_both.Statement.{statement}
 use Rattle.bounds.proofs.write_both.Tie as tie
 
@@ -14,7 +14,10 @@ abbrev own-written : tie.After-known-told → tie.After-write-bounds
 own-written k = k .before .before .before .before .before .before .before
 
 write-bounds-requires : tie.Need-write-bounds-requires
-write-bounds-requires c κs = search needs
+write-bounds-requires c κs =
+    let z = c .before .before .before .before .before .before .before .before .before .before in
+    let a = z .args in
+    (all-there (a .plan .now) (a .edges .now) (a .speeds .now) (a .cells .now) (a .roads) (a .carts) (a .steps) (a .reports) (z .pre .0), z .pre .1)
 
 enum-told : tie.Need-enum-told
 enum-told c = search needs
