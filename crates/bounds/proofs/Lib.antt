@@ -4,5 +4,6 @@ pub mod Links
 pub mod Moves
 pub mod Whole
 pub mod Fits
+pub mod Counted
 pub mod Written
 pub mod Outcome

@@ -9,7 +9,7 @@ use lib.Dec.{T, leb, leb→le, lit≤}
 use lib.ListN.{length, take, drop, length-append}
 use lib.Seq.{sets}
 use mir.Facts.{and-yes}
-use borrow.Author.Tests.{le-leb, lt-leb}
+use borrow.Author.Tests.{le-leb, lt-leb, leb-true, leb-false}
 use borrow.Rule.Slice.PartMut.{midOf, putMid}
 use Rattle.words.proofs.Padding.{padded-length}
 use Rattle.floor.specs.Refusal.{accepted}
@@ -46,7 +46,7 @@ use Rattle.slice.proofs.Holds.{over, accepted-laid, no-log, is-held}
 use Rattle.slice.proofs.LaidPlan.{read-laid, sound-laid, paths-laid, book-laid, added-laid}
 use Rattle.bounds.specs.declared.Network.{Network}
 use Rattle.bounds.specs.declared.Bounding.{Bounding}
-use Rattle.bounds.specs.Bounding.{bounding, bounds-left}
+use Rattle.bounds.specs.Bounding.{bounding, bounds-left, counted, counted-all}
 
 -- ---- the plan in arrays
 
@@ -228,7 +228,7 @@ module _ (s edges speeds cells : List ℕ) (roads carts w reports : ℕ) (h : La
           ap₂ {C = Bool} _&&_ (le-leb (event-count pl) 4096 (fitting-events s edges speeds cells roads carts w reports h fit)) k
 
       -- too many
-      pub own-over : 8192 < own → (t u : List ℕ) → Wrote (held s) Bounding.NoPlan e r t u
+      own-over : 8192 < own → (t u : List ℕ) → Wrote (held s) Bounding.NoPlan e r t u
       own-over k t u = none-held (held s) e r t u (over s pl (h .of-slice) (kept-by false (lt-leb (length (bounds pl)) 8192 (omega (arith, own-are)))))
 
       -- what is then in the arrays
@@ -260,7 +260,7 @@ module _ (s edges speeds cells : List ℕ) (roads carts w reports : ℕ) (h : La
         counts (Added.Count k) = 1
 
         -- there is none
-        pub no-book : y ≡ Added.NoBook → (t u : List ℕ) → Wrote (held s) Bounding.NoPlan e r t u
+        no-book : y ≡ Added.NoBook → (t u : List ℕ) → Wrote (held s) Bounding.NoPlan e r t u
         unfolding added-answer counts
         no-book z t u = none-held (held s) e r t u (by (replay pl (first-book pl) (log-in s)) refl)
           where
@@ -294,7 +294,7 @@ module _ (s edges speeds cells : List ℕ) (roads carts w reports : ℕ) (h : La
           logged = record { tables = tables-in s; of-tables = accepted-laid s pl (h .of-slice) kept; log = log-in s; replayed = bk .1 }
 
           -- how many there are in all
-          pub more-few : own + more ≤ 12_288
+          more-few : own + more ≤ 12_288
           unfolding all-bounds
           more-few =
               let events : event-count pl ≤ 4096 = fitting-events s edges speeds cells roads carts w reports h fit in
@@ -304,7 +304,7 @@ module _ (s edges speeds cells : List ℕ) (roads carts w reports : ℕ) (h : La
               omega (arith, few, many, added, events)
 
           -- what is then in the arrays
-          pub both-written : Wrote (held s) (Bounding.Bounds n own (own + more)) e r e2 r2
+          both-written : Wrote (held s) (Bounding.Bounds n own (own + more)) e r e2 r2
           unfolding bounding bounds-left all-bounds
           both-written =
               let is : held s ≡ some (record { tables = tables-in s; log = log-in s; plan = pl; book = bk .0 }) = is-held s pl (h .of-slice) kept (bk .0) (bk .1) in
@@ -321,3 +321,37 @@ module _ (s edges speeds cells : List ℕ) (roads carts w reports : ℕ) (h : La
                   λ g f. ranges ∙ ap (λ (o : Held). sets r 0 (flatMap bound-range (all-bounds (o .plan) (o .book)))) (Option·some-injective _ _ (sym is ∙ f)),
                 ),
               )
+
+      -- ---- the two together
+
+      abbrev its-log : Option Book
+      its-log = log-of s reports cells carts w
+
+      abbrev by-paths : Plan
+      by-paths = of-paths (paths-in carts w cells)
+
+      -- how many there are in all
+      pub rest-few : own ≤ 8192 → own + length (added-of by-paths its-log) ≤ 12_288
+      unfolding added-of added-answer
+      rest-few few = by its-log refl
+        where
+          by : (o : Option Book) → its-log ≡ o → own + length (added-of by-paths its-log) ≤ 12_288
+          by none k = let no-more : length (added-of by-paths its-log) ≡ 0 = ap (λ (o : Option Book). length (added-of by-paths o)) k in omega arith
+          by (some b) k =
+              let more : length (added-of by-paths its-log) ≡ length (added-bounds by-paths b) = ap (λ (o : Option Book). length (added-of by-paths o)) k in
+              omega (arith, more, more-few few (added-answer by-paths its-log) _ _ refl refl refl (length (added-bounds by-paths b)) (ap (added-answer by-paths) k))
+
+      -- what is answered and left
+      pub rest-written : (z : Bounding) (e2 r2 : List ℕ) → z ≡ counted-all n own (added-answer by-paths its-log)
+          → (own ≤ 8192 → e2 ≡ sets e1 (2 * own) (flatMap bound-ends (added-of by-paths its-log)))
+          → (own ≤ 8192 → r2 ≡ sets r1 (2 * own) (flatMap bound-range (added-of by-paths its-log))) → Wrote (held s) z e r e2 r2
+      unfolding counted-all counted
+      rest-written z e2 r2 z-is e2-is r2-is = subst (λ (b : Bounding). Wrote (held s) b e r e2 r2) (sym z-is) (by (leb own 8192) refl)
+        where
+          among : own ≤ 8192 → (y : Added) → y ≡ added-answer by-paths its-log → Wrote (held s) (counted n own y) e r e2 r2
+          among few Added.NoBook k = no-book few Added.NoBook e2 r2 k (e2-is few) (r2-is few) refl e2 r2
+          among few (Added.Count more) k = both-written few (Added.Count more) e2 r2 k (e2-is few) (r2-is few) more refl
+
+          by : (t : Bool) → leb own 8192 ≡ t → Wrote (held s) (cond t (counted n own (added-answer by-paths its-log)) Bounding.NoPlan) e r e2 r2
+          by true k = among (leb-true own 8192 k) (added-answer by-paths its-log) refl
+          by false k = own-over (leb-false own 8192 k) e2 r2

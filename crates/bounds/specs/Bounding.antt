@@ -1,7 +1,7 @@
 -- The bounds of the plan that a slice holds, in arrays: what the code that writes them answers and leaves, on all input.
 -- Assumes nothing.
-use Prim.Native.Nat.{ℕ}
-use mathlib.Core.Bool.{Bool, true, false}
+use Prim.Native.Nat.{ℕ, _+_}
+use mathlib.Core.Bool.{Bool, true, false, cond}
 use mathlib.Core.List.{List, flatMap}
 use mathlib.Core.Option.{Option, none, some}
 use lib.Dec.{leb}
@@ -10,6 +10,7 @@ use lib.Seq.{sets}
 use Rattle.network.specs.Events.{event-count}
 use Rattle.network.specs.Bounds.{Bound, bounds}
 use Rattle.schedule.specs.Added.{all-bounds}
+use Rattle.book.specs.declared.Added.{Added}
 use Rattle.slice.specs.PlanSlice.{plan-need, Held}
 use Rattle.bounds.specs.declared.Bounding.{Bounding}
 
@@ -38,7 +39,16 @@ unfoldable pub bounding-left : (Bound → List ℕ) → Bool → Option Held →
 bounding-left numbers false h e = e
 bounding-left numbers true h e = bounds-left numbers h e
 
+-- the same by numbers: of events, of the plan's own bounds, and of those that its log adds, if it gives a book
+unfoldable pub counted : ℕ → ℕ → Added → Bounding
+counted events own Added.NoBook = Bounding.NoPlan
+counted events own (Added.Count more) = Bounding.Bounds events own (own + more)
+
+-- no plan, where its own are too many
+unfoldable pub counted-all : ℕ → ℕ → Added → Bounding
+counted-all events own a = cond (leb own 8192) (counted events own a) Bounding.NoPlan
+
 -- Names every definition of this module, for a proof that computes with them all.
 unfoldable pub open-bounding : Unit {0}
-unfolding bounding-fits bounding bounding-answer bounds-left bounding-left
+unfolding bounding-fits bounding bounding-answer bounds-left bounding-left counted counted-all
 open-bounding = tt

@@ -23,7 +23,7 @@ ghost use Rattle.slice.specs.HeldPlan.{log-of, Lays};
 ghost use Rattle.bounds.specs.Links.{RoadsLinked};
 ghost use Rattle.bounds.specs.Network.{plan-in, plan-fitting, network-answer, network-bounds};
 ghost use Rattle.bounds.specs.Writing.{start-to, finish-before};
-ghost use Rattle.bounds.specs.Bounding.{bounding-fits, bounding, bounding-answer, bounds-left, bounding-left};
+ghost use Rattle.bounds.specs.Bounding.{bounding-fits, bounding, bounding-answer, bounds-left, bounding-left, counted-all};
 
 // What the writer of bounds answers: the number of events and of bounds.
 enum Network {
@@ -222,6 +222,37 @@ fn write_log(
     )
 }
 
+// Writes the bounds of a slice's log behind a plan's own, and counts them all. There is no plan where its own are too many or the log gives no book.
+fn write_rest(
+    plan: &[u8],
+    reports: usize,
+    cells: &[u32],
+    carts: usize,
+    steps: usize,
+    events: usize,
+    own: usize,
+    ends: &mut [u16],
+    ranges: &mut [u64],
+) -> Bounding
+    requires { ⌜ (own ≤ 8192 → own + length (added-of (of-paths (paths-in carts steps (now cells))) (log-of (now plan) reports (now cells) carts steps)) ≤ 12288) ⌝ }
+    ensures answer { λ r. ⌜ r ≡ counted-all events own (added-answer (of-paths (paths-in carts steps (now (cells .entry)))) (log-of (now (plan .entry)) reports (now (cells .entry)) carts steps)) ⌝ }
+    ensures left { λ _. ⌜ (own ≤ 8192 → now (ends .exit) ≡ sets (now (ends .entry)) (2 * own) (flatMap bound-ends (added-of (of-paths (paths-in carts steps (now (cells .entry)))) (log-of (now (plan .entry)) reports (now (cells .entry)) carts steps)))) ⌝ }
+    ensures left_ranges { λ _. ⌜ (own ≤ 8192 → now (ranges .exit) ≡ sets (now (ranges .entry)) (2 * own) (flatMap bound-range (added-of (of-paths (paths-in carts steps (now (cells .entry)))) (log-of (now (plan .entry)) reports (now (cells .entry)) carts steps)))) ⌝ }
+{
+    if 8192 < own {
+        return Bounding::NoPlan;
+    }
+    let x = write_log(plan, reports, cells, carts, steps, own, ends, ranges);
+    match x {
+        Added::NoBook => Bounding::NoPlan,
+        Added::Count(more) => Bounding::Bounds {
+            events: events,
+            own: own,
+            all: own + more,
+        },
+    }
+}
+
 // Writes the bounds of a plan in arrays and of a log in a slice, the second behind the first. How many bounds there are is known when they are written, so
 // that the last limits are judged then.
 fn write_both(
@@ -261,20 +292,7 @@ fn write_both(
         Network::Bounds {
             events: n,
             bounds: own,
-        } => {
-            if 8192 < own {
-                return Bounding::NoPlan;
-            }
-            let y = write_log(plan, reports, cells, carts, steps, own, ends, ranges);
-            match y {
-                Added::NoBook => Bounding::NoPlan,
-                Added::Count(more) => Bounding::Bounds {
-                    events: n,
-                    own: own,
-                    all: own + more,
-                },
-            }
-        }
+        } => write_rest(plan, reports, cells, carts, steps, n, own, ends, ranges),
     }
 }
 

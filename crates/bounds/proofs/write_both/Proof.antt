@@ -1,7 +1,6 @@
--- `bounds::write_both` meets its contract: the plan's own bounds are written and counted, and behind them those that its log adds. Assumes nothing.
-use native.Mathlib.Omega.{arith}
+-- `bounds::write_both` meets its contract: the plan's own bounds are written, and behind them those that its log adds. Assumes nothing.
 use borrow.Author.Needs.{needs}
-use Rattle.bounds.proofs.Written.{all-there, own-unfit, own-over, no-book, more-few, both-written}
+use Rattle.bounds.proofs.Written.{all-there, own-unfit, rest-few, rest-written}
 use Rattle.bounds.proofs.write_both.Statement.{statement}
 use Rattle.bounds.proofs.write_both.Tie as tie
 
@@ -25,6 +24,14 @@ enum-told c = search needs
 enum-known-x : tie.Need-enum-known-x
 enum-known-x c = search needs
 
+write-rest-requires : tie.Need-write-rest-requires
+write-rest-requires c κs =
+    let k = c .before .before in
+    let w = own-written k in
+    let a = start w .args in
+    rest-few (a .plan .now) (a .edges .now) (a .speeds .now) (a .cells .now) (a .roads) (a .carts) (a .steps) (a .reports) (start w .pre .0) (a .ends .now) (a .ranges .now)
+    (w .write-bounds .result) _ _ (w .write-bounds .ensures .0) (w .write-bounds .ensures .1 .0) (w .write-bounds .ensures .1 .1) _ _ (k .before .x .given .1)
+
 same-length : tie.Need-same-length
 same-length c = search needs
 
@@ -33,33 +40,10 @@ same-length-2 c = search needs
 
 returns : tie.Need-returns
 returns c =
-    let k = c .before in
-    let w = own-written k in
+    let w = c .before .before .before .before .before .before in
     let a = start w .args in
-    own-over (a .plan .now) (a .edges .now) (a .speeds .now) (a .cells .now) (a .roads) (a .carts) (a .steps) (a .reports) (start w .pre .0) (a .ends .now) (a .ranges .now)
-    (w .write-bounds .result) _ _ (w .write-bounds .ensures .0) (w .write-bounds .ensures .1 .0) (w .write-bounds .ensures .1 .1) _ _ (k .before .x .given .1) (c .if1 .taken) _ _
-
-write-log-requires : tie.Need-write-log-requires
-write-log-requires c κs = search needs
-
-enum-told-2 : tie.Need-enum-told-2
-enum-told-2 c = search needs
-
-enum-known-y : tie.Need-enum-known-y
-enum-known-y c = search needs
-
-add-t29 : tie.Need-add-t29
-add-t29 c =
-    let g = c .before .before .before .before .before .before .before in
-    let o = g .before .before .before in
-    let k = o .before in
-    let w = own-written k in
-    let a = start w .args in
-    omega (
-      arith,
-      more-few (a .plan .now) (a .edges .now) (a .speeds .now) (a .cells .now) (a .roads) (a .carts) (a .steps) (a .reports) (start w .pre .0) (a .ends .now) (a .ranges .now)
-          (w .write-bounds .result) _ _ (w .write-bounds .ensures .0) (w .write-bounds .ensures .1 .0) (w .write-bounds .ensures .1 .1) _ _ (k .before .x .given .1) (o .if1 .left) (g .write-log .result) _ _ (g .write-log .ensures .0) (g .write-log .ensures .1 .0) (g .write-log .ensures .1 .1) _ (c .before .y .given .1),
-    )
+    own-unfit (a .plan .now) (a .edges .now) (a .speeds .now) (a .cells .now) (a .roads) (a .carts) (a .steps) (a .reports) (start w .pre .0) (a .ends .now) (a .ranges .now)
+    (w .write-bounds .result) _ _ (w .write-bounds .ensures .0) (w .write-bounds .ensures .1 .0) (w .write-bounds .ensures .1 .1) (c .enum-told .given .1) _ _
 
 same-length-3 : tie.Need-same-length-3
 same-length-3 c = search needs
@@ -69,42 +53,13 @@ same-length-4 c = search needs
 
 returns-2 : tie.Need-returns-2
 returns-2 c =
-    let w = c .before .before .before .before .before .before in
-    let a = start w .args in
-    own-unfit (a .plan .now) (a .edges .now) (a .speeds .now) (a .cells .now) (a .roads) (a .carts) (a .steps) (a .reports) (start w .pre .0) (a .ends .now) (a .ranges .now)
-    (w .write-bounds .result) _ _ (w .write-bounds .ensures .0) (w .write-bounds .ensures .1 .0) (w .write-bounds .ensures .1 .1) (c .enum-told .given .1) _ _
-
-same-length-5 : tie.Need-same-length-5
-same-length-5 c = search needs
-
-same-length-6 : tie.Need-same-length-6
-same-length-6 c = search needs
-
-returns-3 : tie.Need-returns-3
-returns-3 c =
-    let g = c .before .before .before .before .before .before in
-    let o = g .before .before .before in
-    let k = o .before in
+    let g = c .before .before .before .before in
+    let k = g .before .before .before in
     let w = own-written k in
     let a = start w .args in
-    no-book (a .plan .now) (a .edges .now) (a .speeds .now) (a .cells .now) (a .roads) (a .carts) (a .steps) (a .reports) (start w .pre .0) (a .ends .now) (a .ranges .now)
-    (w .write-bounds .result) _ _ (w .write-bounds .ensures .0) (w .write-bounds .ensures .1 .0) (w .write-bounds .ensures .1 .1) _ _ (k .before .x .given .1) (o .if1 .left) (g .write-log .result) _ _ (g .write-log .ensures .0) (g .write-log .ensures .1 .0) (g .write-log .ensures .1 .1) (c .enum-told2 .given .1) _ _
-
-same-length-7 : tie.Need-same-length-7
-same-length-7 c = search needs
-
-same-length-8 : tie.Need-same-length-8
-same-length-8 c = search needs
-
-returns-4 : tie.Need-returns-4
-returns-4 c =
-    let g = c .before .before .before .before .before .before .before in
-    let o = g .before .before .before in
-    let k = o .before in
-    let w = own-written k in
-    let a = start w .args in
-    both-written (a .plan .now) (a .edges .now) (a .speeds .now) (a .cells .now) (a .roads) (a .carts) (a .steps) (a .reports) (start w .pre .0) (a .ends .now) (a .ranges .now)
-    (w .write-bounds .result) _ _ (w .write-bounds .ensures .0) (w .write-bounds .ensures .1 .0) (w .write-bounds .ensures .1 .1) _ _ (k .before .x .given .1) (o .if1 .left) (g .write-log .result) _ _ (g .write-log .ensures .0) (g .write-log .ensures .1 .0) (g .write-log .ensures .1 .1) _ (c .before .y .given .1)
+    rest-written (a .plan .now) (a .edges .now) (a .speeds .now) (a .cells .now) (a .roads) (a .carts) (a .steps) (a .reports) (start w .pre .0) (a .ends .now) (a .ranges .now)
+    (w .write-bounds .result) _ _ (w .write-bounds .ensures .0) (w .write-bounds .ensures .1 .0) (w .write-bounds .ensures .1 .1) _ _ (k .before .x .given .1)
+    (g .write-rest .result) _ _ (g .write-rest .ensures .0) (g .write-rest .ensures .1 .0) (g .write-rest .ensures .1 .1)
 
 pub write-both-spec : {M : Type 1} → statement M
 write-both-spec =
@@ -113,19 +68,10 @@ write-both-spec =
     write-bounds-requires
     enum-told
     enum-known-x
+    write-rest-requires
     same-length
     same-length-2
     returns
-    write-log-requires
-    enum-told-2
-    enum-known-y
-    add-t29
     same-length-3
     same-length-4
-    returns-2
-    same-length-5
-    same-length-6
-    returns-3
-    same-length-7
-    same-length-8
-    returns-4)
+    returns-2)
