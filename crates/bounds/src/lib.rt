@@ -308,7 +308,14 @@ fn write_laid(plan: &[u8], ends: &mut [u16], ranges: &mut [u64]) -> Bounding
     let mut cells = [0u32; 8192];
     let mut heads: [u16; 1024] = [0; 1024];
     let mut nexts: [u16; 1024] = [0; 1024];
-    let x = slice::read_laid(plan, &mut edges, &mut speeds, &mut cells);
+    let x = slice::read_laid(
+        plan,
+        &mut edges,
+        &mut speeds,
+        &mut cells,
+        &mut heads,
+        &mut nexts,
+    );
     match x {
         Holding::TooShort => Bounding::TooShort,
         Holding::NoPlan => Bounding::NoPlan,

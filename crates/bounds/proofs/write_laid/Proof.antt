@@ -1,14 +1,16 @@
 -- `bounds::write_laid` meets its contract: the tables give no plan, or its bounds are written. Assumes nothing.
+use mathlib.Core.Path.{sym}
 use borrow.Author.Needs.{needs}
 use Rattle.slice.proofs.Holds.{unlaid-none}
 use Rattle.slice.proofs.LaidPlan.{never-short, not-laid, laid-there}
+use Rattle.bounds.specs.Links.{RoadsLinked}
 use Rattle.bounds.proofs.Written.{none-held}
 use Rattle.bounds.proofs.write_laid.Statement.{statement}
 use Rattle.bounds.proofs.write_laid.Tie as tie
 
 -- where the slices are lent
 abbrev start : tie.After-read-laid → tie.Start
-start r = r .before .before .before .before .before .before .before
+start r = r .before .before .before .before .before .before .before .before .before
 
 slice-aggregate-read-laid : tie.Need-slice-aggregate-read-laid
 slice-aggregate-read-laid c = search needs
@@ -31,6 +33,12 @@ enum-told-2 c = search needs
 enum-known-x : tie.Need-enum-known-x
 enum-known-x c = search needs
 
+-- the roads are linked, where a plan is there
+linked : (k : tie.After-x)
+    → let r = k .before .before .before .before .before in
+    RoadsLinked (k .x .given .0 .0) (r .read-laid .last .1 .0) (r .read-laid .last .1 .1 .1 .1 .0) (r .read-laid .last .1 .1 .1 .1 .1 .0)
+linked k = let r = k .before .before .before .before .before in r .read-laid .ensures .1 .1 .1 .1 _ _ _ _ (k .x .given .1)
+
 slice-aggregate-write-both : tie.Need-slice-aggregate-write-both
 slice-aggregate-write-both c = search needs
 
@@ -41,19 +49,19 @@ slice-aggregate-write-both-3 : tie.Need-slice-aggregate-write-both-3
 slice-aggregate-write-both-3 c = search needs
 
 slice-aggregate-write-both-4 : tie.Need-slice-aggregate-write-both-4
-slice-aggregate-write-both-4 c = search needs
+slice-aggregate-write-both-4 c = sym (linked (c .before .before .before .before .before) .0)
 
 slice-aggregate-write-both-5 : tie.Need-slice-aggregate-write-both-5
-slice-aggregate-write-both-5 c = search needs
+slice-aggregate-write-both-5 c = sym (linked (c .before .before .before .before .before .before) .1)
 
 write-both-requires : tie.Need-write-both-requires
 write-both-requires c κs =
     let k = c .before .before .before .before .before .before .before .before in
     let r = k .before .before .before .before .before in
     let b = start r in (
-      laid-there (b .args .plan .now) (b .pre) (r .read-laid .result) (r .read-laid .ensures .0) _ _ _ (r .read-laid .ensures .1 .0) (r .read-laid .ensures .1 .1 .0) (r .read-laid .ensures .1 .1 .1)
+      laid-there (b .args .plan .now) (b .pre) (r .read-laid .result) (r .read-laid .ensures .0) _ _ _ (r .read-laid .ensures .1 .0) (r .read-laid .ensures .1 .1 .0) (r .read-laid .ensures .1 .1 .1 .0)
           _ _ _ _ (k .x .given .1),
-      (search needs, search needs, ?),
+      linked k,
     )
 
 returns : tie.Need-returns
