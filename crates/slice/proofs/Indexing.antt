@@ -105,3 +105,8 @@ unfolding laid-indexed
 laid-without h n s e v k lh ln X x edges speeds cells l =
     let (a, (b, (c, (d, _)))) = subst (λ (t : Bool). Left t s e v k X x edges speeds cells) (index-fits h n lh ln) l in
     (a, (b, (c, d)))
+
+-- where a plan is told of, the index is that of its roads
+pub index-held : (x : Holding) (i j w m : ℕ) (s heads nexts : List ℕ) → x ≡ Holding.Held i j w m → Indexed (roads-held x) s heads nexts → Indexed i s heads nexts
+unfolding roads-held
+index-held x i j w m s heads nexts e k = subst (λ (u : ℕ). Indexed u s heads nexts) (ap roads-held e) k

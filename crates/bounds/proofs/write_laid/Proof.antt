@@ -1,7 +1,10 @@
 -- `bounds::write_laid` meets its contract: the tables give no plan, or its bounds are written. Assumes nothing.
-use mathlib.Core.Path.{sym}
+use Prim.Native.Nat.{ℕ}
+use mathlib.Core.Path.{_∙_}
+use lib.ListN.{replicate, length-replicate}
 use borrow.Author.Needs.{needs}
-use Rattle.slice.proofs.Holds.{unlaid-none}
+use Rattle.slice.proofs.Holds.{LaidLeft, unlaid-none}
+use Rattle.slice.proofs.Indexing.{laid-without, index-held}
 use Rattle.slice.proofs.LaidPlan.{never-short, not-laid, laid-there}
 use Rattle.bounds.specs.Links.{RoadsLinked}
 use Rattle.bounds.proofs.Written.{none-held}
@@ -21,6 +24,12 @@ slice-aggregate-read-laid-2 c = search needs
 slice-aggregate-read-laid-3 : tie.Need-slice-aggregate-read-laid-3
 slice-aggregate-read-laid-3 c = search needs
 
+slice-aggregate-read-laid-4 : tie.Need-slice-aggregate-read-laid-4
+slice-aggregate-read-laid-4 c = search needs
+
+slice-aggregate-read-laid-5 : tie.Need-slice-aggregate-read-laid-5
+slice-aggregate-read-laid-5 c = search needs
+
 read-laid-requires : tie.Need-read-laid-requires
 read-laid-requires c κs = search needs
 
@@ -33,11 +42,23 @@ enum-told-2 c = search needs
 enum-known-x : tie.Need-enum-known-x
 enum-known-x c = search needs
 
+-- what was read, and left in the arrays
+read : (r : tie.After-read-laid)
+    → LaidLeft (start r .args .plan .now) (replicate 4096 0) (replicate 128 0) (replicate 8192 0) (r .read-laid .result) (r .read-laid .last .1 .0) (r .read-laid .last .1 .1 .0) (r .read-laid .last .1 .1 .1 .0)
+read r =
+    laid-without (replicate 1024 0) (replicate 1024 0) _ (replicate 4096 0) (replicate 128 0) (replicate 8192 0) (length-replicate {A = ℕ} 1024 0) (length-replicate {A = ℕ} 1024 0) _ _ _ _ _
+    (r .read-laid .ensures)
+
 -- the roads are linked, where a plan is there
 linked : (k : tie.After-x)
-    → let r = k .before .before .before .before .before in
+    → let r = k .before .before .before .before .before .before .before in
     RoadsLinked (k .x .given .0 .0) (r .read-laid .last .1 .0) (r .read-laid .last .1 .1 .1 .1 .0) (r .read-laid .last .1 .1 .1 .1 .1 .0)
-linked k = let r = k .before .before .before .before .before in r .read-laid .ensures .1 .1 .1 .1 _ _ _ _ (k .x .given .1)
+linked k =
+    let r = k .before .before .before .before .before .before .before in (
+      r .read-laid .kept .1 .1 .1 .1 .0 ∙ length-replicate {A = ℕ} 1024 0,
+      r .read-laid .kept .1 .1 .1 .1 .1 .0 ∙ length-replicate {A = ℕ} 1024 0,
+      index-held _ _ _ _ _ _ _ _ (k .x .given .1) (r .read-laid .ensures .1 .1 .1 .1),
+    )
 
 slice-aggregate-write-both : tie.Need-slice-aggregate-write-both
 slice-aggregate-write-both c = search needs
@@ -49,32 +70,30 @@ slice-aggregate-write-both-3 : tie.Need-slice-aggregate-write-both-3
 slice-aggregate-write-both-3 c = search needs
 
 slice-aggregate-write-both-4 : tie.Need-slice-aggregate-write-both-4
-slice-aggregate-write-both-4 c = sym (linked (c .before .before .before .before .before) .0)
+slice-aggregate-write-both-4 c = search needs
 
 slice-aggregate-write-both-5 : tie.Need-slice-aggregate-write-both-5
-slice-aggregate-write-both-5 c = sym (linked (c .before .before .before .before .before .before) .1)
+slice-aggregate-write-both-5 c = search needs
 
 write-both-requires : tie.Need-write-both-requires
 write-both-requires c κs =
     let k = c .before .before .before .before .before .before .before .before in
-    let r = k .before .before .before .before .before in
-    let b = start r in (
-      laid-there (b .args .plan .now) (b .pre) (r .read-laid .result) (r .read-laid .ensures .0) _ _ _ (r .read-laid .ensures .1 .0) (r .read-laid .ensures .1 .1 .0) (r .read-laid .ensures .1 .1 .1 .0)
-          _ _ _ _ (k .x .given .1),
-      linked k,
-    )
+    let r = k .before .before .before .before .before .before .before in
+    let b = start r in
+    let e = read r in
+    (laid-there (b .args .plan .now) (b .pre) (r .read-laid .result) (e .0) _ _ _ (e .1 .0) (e .1 .1 .0) (e .1 .1 .1) _ _ _ _ (k .x .given .1), linked k)
 
 returns : tie.Need-returns
 returns c =
-    let r = c .before .before .before .before .before in
+    let r = c .before .before .before .before .before .before .before in
     let b = start r in
-    absurd (never-short (b .args .plan .now) (b .pre) (r .read-laid .result) (r .read-laid .ensures .0) (c .enum-told .given .1))
+    absurd (never-short (b .args .plan .now) (b .pre) (r .read-laid .result) (read r .0) (c .enum-told .given .1))
 
 returns-2 : tie.Need-returns-2
 returns-2 c =
-    let r = c .before .before .before .before .before in
+    let r = c .before .before .before .before .before .before .before in
     let b = start r in
-    none-held _ _ _ _ _ (unlaid-none (b .args .plan .now) (not-laid (b .args .plan .now) (b .pre) (r .read-laid .result) (r .read-laid .ensures .0) (c .enum-told2 .given .1)))
+    none-held _ _ _ _ _ (unlaid-none (b .args .plan .now) (not-laid (b .args .plan .now) (b .pre) (r .read-laid .result) (read r .0) (c .enum-told2 .given .1)))
 
 same-length : tie.Need-same-length
 same-length c = search needs
@@ -92,6 +111,8 @@ write-laid-spec =
     slice-aggregate-read-laid
     slice-aggregate-read-laid-2
     slice-aggregate-read-laid-3
+    slice-aggregate-read-laid-4
+    slice-aggregate-read-laid-5
     read-laid-requires
     enum-told
     enum-told-2
