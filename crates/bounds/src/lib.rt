@@ -341,17 +341,6 @@ fn write_laid(plan: &[u8], ends: &mut [u16], ranges: &mut [u64]) -> Bounding
     }
 }
 
-// Zeros in every place of an array of ends.
-fn clear_ends(ends: &mut [u16])
-    ensures { λ _. ⌜ now (ends .exit) ≡ replicate (length (now (ends .entry))) 0 ⌝ }
-{
-    let mut i = 0;
-    while i < ends.len() {
-        ends[i] = 0;
-        i += 1;
-    }
-}
-
 // Zeros in every place of an array of ranges.
 fn clear_ranges(ranges: &mut [u64])
     ensures { λ _. ⌜ now (ranges .exit) ≡ replicate (length (now (ranges .entry))) 0 ⌝ }
@@ -375,7 +364,7 @@ pub fn write_held(plan: &[u8], ends: &mut [u16], ranges: &mut [u64]) -> Bounding
     }
     let x = write_laid(plan, ends, ranges);
     if let Bounding::NoPlan = x {
-        clear_ends(ends);
+        tables::clear_narrow(ends);
         clear_ranges(ranges);
     }
     x

@@ -255,8 +255,8 @@ pub fn read_laid(
     } = x {
         return x;
     }
-    tables::clear_links(heads);
-    tables::clear_links(nexts);
+    tables::clear_narrow(heads);
+    tables::clear_narrow(nexts);
     x
 }
 

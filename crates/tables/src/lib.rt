@@ -269,13 +269,13 @@ pub fn read_tables(
     )
 }
 
-// Zeros in every place of an array of links.
-pub fn clear_links(links: &mut [u16])
-    ensures { λ _. ⌜ now (links .exit) ≡ replicate (length (now (links .entry))) 0 ⌝ }
+// Zeros in every place of an array of two-byte numbers, as those of an index.
+pub fn clear_narrow(numbers: &mut [u16])
+    ensures { λ _. ⌜ now (numbers .exit) ≡ replicate (length (now (numbers .entry))) 0 ⌝ }
 {
     let mut at = 0;
-    while at < links.len() {
-        links[at] = 0;
+    while at < numbers.len() {
+        numbers[at] = 0;
         at += 1;
     }
 }
@@ -298,8 +298,8 @@ pub fn read_indexed(
     ensures cells { λ _. ⌜ now (cells .exit) ≡ indexed-into (index-room (now (heads .entry)) (now (nexts .entry))) (now (roads .entry)) (now (carts .entry)) (now (paths .entry)) (now (edges .entry)) (now (speeds .entry)) (now (cells .entry)) .arrays .cells ⌝ }
     ensures index { λ r. ⌜ Indexed (roads-read r) (now (edges .exit)) (now (heads .exit)) (now (nexts .exit)) ⌝ }
 {
-    clear_links(heads);
-    clear_links(nexts);
+    clear_narrow(heads);
+    clear_narrow(nexts);
     if heads.len() != 1024 {
         return Reading::TooShort;
     }
@@ -314,7 +314,7 @@ pub fn read_indexed(
     } = x {
         return x;
     }
-    clear_links(heads);
-    clear_links(nexts);
+    clear_narrow(heads);
+    clear_narrow(nexts);
     x
 }

@@ -21,8 +21,8 @@ write-laid-requires c κs = search needs
 enum-told : tie.Need-enum-told
 enum-told c = search needs
 
-clear-ends-requires : tie.Need-clear-ends-requires
-clear-ends-requires c κs = search needs
+clear-narrow-requires : tie.Need-clear-narrow-requires
+clear-narrow-requires c κs = search needs
 
 clear-ranges-requires : tie.Need-clear-ranges-requires
 clear-ranges-requires c κs = search needs
@@ -42,7 +42,7 @@ returns-2 c =
     let o = w .before .before .before in
     let a = o .before .before .before .before .args in
     cleared-plan (a .plan .now) (a .ends .now) (a .ranges .now) (o .if1 .left) _ (w .write-laid .ensures .0) (k .enum-told .given .1) _ _
-    (d .clear-ends .ensures ∙ ap (λ (n : ℕ). replicate n 0) (w .write-laid .kept .1 .0))
+    (d .clear-narrow .ensures ∙ ap (λ (n : ℕ). replicate n 0) (w .write-laid .kept .1 .0))
     (r .clear-ranges .ensures ∙ ap (λ (n : ℕ). replicate n 0) (w .write-laid .kept .1 .1 .0))
 
 same-length-3 : tie.Need-same-length-3
@@ -66,7 +66,7 @@ write-held-spec =
     returns
     write-laid-requires
     enum-told
-    clear-ends-requires
+    clear-narrow-requires
     clear-ranges-requires
     same-length
     same-length-2

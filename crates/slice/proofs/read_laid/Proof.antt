@@ -40,11 +40,11 @@ returns c =
     left-with (index-room (a .heads .now) (a .nexts .now)) (a .plan .now) (a .edges .now) (a .speeds .now) (a .cells .now) _ _ _ _ _ _ (r .read-where .ensures)
     (roads-held-there _ _ _ _ _ _ _ _ (c .enum-told .given .1) (r .read-where .ensures .1 .1 .1 .1 _ _ _ _ (c .enum-told .given .1)))
 
-clear-links-requires : tie.Need-clear-links-requires
-clear-links-requires c κs = search needs
+clear-narrow-requires : tie.Need-clear-narrow-requires
+clear-narrow-requires c κs = search needs
 
-clear-links-requires-2 : tie.Need-clear-links-requires-2
-clear-links-requires-2 c κs = search needs
+clear-narrow-requires-2 : tie.Need-clear-narrow-requires-2
+clear-narrow-requires-2 c κs = search needs
 
 same-length-6 : tie.Need-same-length-6
 same-length-6 c = search needs
@@ -69,7 +69,7 @@ returns-2 c =
     let a = r .before .before .before .before .before .before .before .before .before .before .before .before .args in
     left-with (index-room (a .heads .now) (a .nexts .now)) (a .plan .now) (a .edges .now) (a .speeds .now) (a .cells .now) _ _ _ _ _ _ (r .read-where .ensures)
     (roads-held-none _ (λ i j w m e. miss (0 ∷ 1 ∷ []) 2 tt (subst (λ (x : Holding). OneOf (0 ∷ 1 ∷ []) (tagOf the-type x)) e (u .before .before .match .keys2)))
-    (length (r .read-where .last .1 .1 .1 .1 .0)) (length (r .read-where .last .1 .1 .1 .1 .1 .0)) _ _ _ (u .clear-links .ensures) (v .clear-links2 .ensures))
+    (length (r .read-where .last .1 .1 .1 .1 .0)) (length (r .read-where .last .1 .1 .1 .1 .1 .0)) _ _ _ (u .clear-narrow .ensures) (v .clear-narrow2 .ensures))
 
 pub read-laid-spec : {M : Type 1} → statement M
 read-laid-spec =
@@ -83,8 +83,8 @@ read-laid-spec =
     same-length-4
     same-length-5
     returns
-    clear-links-requires
-    clear-links-requires-2
+    clear-narrow-requires
+    clear-narrow-requires-2
     same-length-6
     same-length-7
     same-length-8
