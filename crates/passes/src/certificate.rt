@@ -113,6 +113,18 @@ fn check(ends: &[u16], ranges: &[u64], bounds: usize, values: &[i64], marks: &mu
     check_events(values, marks)
 }
 
+// Whether the values of at most 256 events are a certificate, with as few marks, which take less time to clear.
+fn check_few(ends: &[u16], ranges: &[u64], bounds: usize, values: &[i64]) -> bool
+    requires { ⌜ (bounds ≤ 12288) × (2 * bounds ≤ length (now ends)) × (2 * bounds ≤ length (now ranges)) ⌝ }
+    requires { ⌜ (bounds-fit (length (now values)) (bounds-in bounds (now ends) (now ranges)) ≡ true) × InRange (now values) ⌝ }
+    requires { ⌜ (1 ≤ length (now values)) × (length (now values) ≤ 256) ⌝ }
+    ensures { λ r. ⌜ (r ≡ true → Certified (flatMap ways (bounds-in bounds (now (ends .entry)) (now (ranges .entry)))) (now (values .entry))) ⌝ }
+{
+    let mut marks = [0u8; 256];
+    let n = values.len();
+    check(ends, ranges, bounds, values, &mut marks[..n])
+}
+
 // Whether values are a certificate.
 pub(crate) fn is_certificate(ends: &[u16], ranges: &[u64], bounds: usize, values: &[i64]) -> bool
     requires { ⌜ (bounds ≤ 12288) × (2 * bounds ≤ length (now ends)) × (2 * bounds ≤ length (now ranges)) ⌝ }
@@ -120,8 +132,11 @@ pub(crate) fn is_certificate(ends: &[u16], ranges: &[u64], bounds: usize, values
     requires { ⌜ (1 ≤ length (now values)) × (length (now values) ≤ 4096) ⌝ }
     ensures { λ r. ⌜ (r ≡ true → Certified (flatMap ways (bounds-in bounds (now (ends .entry)) (now (ranges .entry)))) (now (values .entry))) ⌝ }
 {
-    let mut marks = [0u8; 4096];
     let n = values.len();
+    if n <= 256 {
+        return check_few(ends, ranges, bounds, values);
+    }
+    let mut marks = [0u8; 4096];
     check(ends, ranges, bounds, values, &mut marks[..n])
 }
 
