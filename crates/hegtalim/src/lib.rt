@@ -9,7 +9,7 @@ use slice::Holding;
 use tables::Reading;
 ghost use mathlib.Core.Path.{_≡_};
 ghost use mathlib.Core.List.{[]};
-ghost use Prim.Native.Nat.{_≤_, _<_};
+ghost use Prim.Native.Nat.{_+_, _≤_, _<_};
 ghost use lib.ListN.{length, replicate};
 ghost use Rattle.words.specs.Words.{written, padded};
 ghost use Rattle.floor.specs.Refusal.{accepted};
@@ -276,14 +276,14 @@ fn time_large(plan: &[u8], times: &mut [u8], numbers: &mut [u8], directions: &mu
     time_in(plan, &mut ends, &mut ranges, times, numbers, directions)
 }
 
-// How many commas there are in the first bytes of the table of paths in a slice.
-fn commas(plan: &[u8], bytes: usize) -> u32
-    requires { ⌜ (bytes ≤ 4096) × (233472 ≤ length (now plan)) ⌝ }
+// How many commas there are among 64 bytes of a slice, from a place on. They are counted in a byte and to the end, so that the compiler looks at many at once.
+fn commas_from(plan: &[u8], from: usize) -> u8
+    requires { ⌜ from + 64 ≤ length (now plan) ⌝ }
 {
-    let mut n: u32 = 0;
+    let mut n: u8 = 0;
     let mut i: usize = 0;
-    while i < bytes {
-        if plan[131_072 + i] == 44 {
+    while i < 64 {
+        if plan[from + i] == 44 {
             n += 1;
         }
         i += 1;
@@ -291,17 +291,32 @@ fn commas(plan: &[u8], bytes: usize) -> u32
     n
 }
 
-// How many there are in a table of paths of at most 4,096 bytes, behind which stand zeros. No plan has more moves than that.
+// How many there are in the first blocks, of 64 bytes each, of the table of paths in a slice.
+fn commas(plan: &[u8], blocks: usize) -> u32
+    requires { ⌜ (blocks ≤ 64) × (233472 ≤ length (now plan)) ⌝ }
+{
+    let mut n: u32 = 0;
+    let mut i: usize = 0;
+    while i < blocks {
+        n += commas_from(plan, 131_072 + 64 * i) as u32;
+        i += 1;
+    }
+    n
+}
+
+// How many there are in a table of paths of at most 4,096 bytes, behind which stand zeros: few blocks are looked at where the table is short. No plan has
+// more moves than that.
 fn most_moves(plan: &[u8]) -> u32
     requires { ⌜ 233472 ≤ length (now plan) ⌝ }
 {
-    if plan[131_584] == 0 {
-        return commas(plan, 512);
+    let mut blocks: usize = 1;
+    while blocks < 64 {
+        if plan[131_072 + 64 * blocks] == 0 {
+            return commas(plan, blocks);
+        }
+        blocks = 2 * blocks;
     }
-    if plan[133_120] == 0 {
-        return commas(plan, 2048);
-    }
-    commas(plan, 4096)
+    commas(plan, 64)
 }
 
 // The same for a table of paths of at most 4,096 bytes, in one of the three shorter pairs of arrays: a move takes six bounds, three of them added, and more

@@ -1,24 +1,29 @@
--- `hegtalim::commas` meets its contract: it reads what is there, and counts no more than it reads. Assumes nothing.
-use Prim.Native.Nat.{_-_, _≤_}
-use mathlib.Core.Logic.{⊎-elim}
+-- `hegtalim::commas` meets its contract: its blocks are there, and none adds more to the count than a byte holds. Assumes nothing.
+use Prim.Native.Nat.{_*_, _-_, _≤_}
 use borrow.Author.Needs.{needs}
 use Rattle.hegtalim.proofs.commas.Statement.{statement}
 use Rattle.hegtalim.proofs.commas.Tie as tie
 
 abbrev Inv-loop : tie.InvT-loop
-Inv-loop plan bytes n₀ i₀ n i = (i ≤ bytes) × (n ≤ i)
+Inv-loop plan blocks n₀ i₀ n i = (i ≤ blocks) × (n ≤ 255 * i)
 
 abbrev μ-loop : tie.MeasureT-loop
-μ-loop plan bytes n₀ i₀ n i = bytes - i
+μ-loop plan blocks n₀ i₀ n i = blocks - i
 
 loop-holds : tie.Need-loop-holds Inv-loop μ-loop
 loop-holds c = search needs
 
-add-if1 : tie.Need-add-if1 Inv-loop μ-loop
-add-if1 c = search needs
+mul-commas-from : tie.Need-mul-commas-from Inv-loop μ-loop
+mul-commas-from c = search needs
 
-shared-slice-read-if1 : tie.Need-shared-slice-read-if1 Inv-loop μ-loop
-shared-slice-read-if1 c = search needs
+add-commas-from : tie.Need-add-commas-from Inv-loop μ-loop
+add-commas-from c = search needs
+
+commas-from-requires : tie.Need-commas-from-requires Inv-loop μ-loop
+commas-from-requires c κs = search needs
+
+cast-n : tie.Need-cast-n Inv-loop μ-loop
+cast-n c = search needs
 
 add-n : tie.Need-add-n Inv-loop μ-loop
 add-n c = search needs
@@ -30,7 +35,7 @@ loop-less : tie.Need-loop-less Inv-loop μ-loop
 loop-less c = search needs
 
 loop-again : tie.Need-loop-again Inv-loop μ-loop
-loop-again c = ⊎-elim (λ w. search needs) (λ w. search needs) (c .if1 .came)
+loop-again c = search needs
 
 returns : tie.Need-returns Inv-loop μ-loop
 returns c = search needs
@@ -42,8 +47,10 @@ commas-spec =
     Inv-loop
     μ-loop
     loop-holds
-    add-if1
-    shared-slice-read-if1
+    mul-commas-from
+    add-commas-from
+    commas-from-requires
+    cast-n
     add-n
     add-i
     loop-less
