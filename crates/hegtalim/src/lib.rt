@@ -224,7 +224,20 @@ fn time_in(
     }
 }
 
-// The same in the shortest arrays, which take the least time to clear; more than 768 bounds have no room there.
+// The same in the shortest arrays, which take the least time to clear; more than 128 bounds have no room there.
+fn time_least(plan: &[u8], times: &mut [u8], numbers: &mut [u8], directions: &mut [u8]) -> Timed
+    requires { ⌜ (233472 ≤ length (now plan)) × (32768 ≤ length (now times)) × (8192 ≤ length (now numbers)) × (4096 ≤ length (now directions)) ⌝ }
+    ensures { λ r. ⌜ Worked 256 256 (now (plan .entry))
+        (record { times = now (times .entry); chain-bounds = now (numbers .entry); chain-directions = now (directions .entry) })
+        r
+        (record { times = now (times .exit); chain-bounds = now (numbers .exit); chain-directions = now (directions .exit) }) ⌝ }
+{
+    let mut ends = [0u16; 256];
+    let mut ranges = [0u64; 256];
+    time_in(plan, &mut ends, &mut ranges, times, numbers, directions)
+}
+
+// The same in arrays that have room for 768 bounds, which take little time to clear.
 fn time_tiny(plan: &[u8], times: &mut [u8], numbers: &mut [u8], directions: &mut [u8]) -> Timed
     requires { ⌜ (233472 ≤ length (now plan)) × (32768 ≤ length (now times)) × (8192 ≤ length (now numbers)) × (4096 ≤ length (now directions)) ⌝ }
     ensures { λ r. ⌜ Worked 1536 1536 (now (plan .entry))
@@ -237,7 +250,7 @@ fn time_tiny(plan: &[u8], times: &mut [u8], numbers: &mut [u8], directions: &mut
     time_in(plan, &mut ends, &mut ranges, times, numbers, directions)
 }
 
-// The same in short arrays, which take little time to clear; more than 2,560 bounds have no room there.
+// The same in short arrays; more than 2,560 bounds have no room there.
 fn time_small(plan: &[u8], times: &mut [u8], numbers: &mut [u8], directions: &mut [u8]) -> Timed
     requires { ⌜ (233472 ≤ length (now plan)) × (32768 ≤ length (now times)) × (8192 ≤ length (now numbers)) × (4096 ≤ length (now directions)) ⌝ }
     ensures { λ r. ⌜ Worked 5120 5120 (now (plan .entry))
@@ -319,8 +332,8 @@ fn most_moves(plan: &[u8]) -> u32
     commas(plan, 64)
 }
 
-// The same for a table of paths of at most 4,096 bytes, in one of the three shorter pairs of arrays: a move takes six bounds, three of them added, and more
-// than two order bounds besides have room there. Many moves are not tried.
+// The same for a table of paths of at most 4,096 bytes, in one of the four shorter pairs of arrays: a move takes six bounds, three of them added, and more
+// than two order bounds besides have room there. Where there are at most 14 commas all bounds have room. Many moves are not tried.
 fn time_short(plan: &[u8], times: &mut [u8], numbers: &mut [u8], directions: &mut [u8]) -> Timed
     requires { ⌜ (233472 ≤ length (now plan)) × (32768 ≤ length (now times)) × (8192 ≤ length (now numbers)) × (4096 ≤ length (now directions)) ⌝ }
     ensures { λ r. ⌜ Worked 12288 12288 (now (plan .entry))
@@ -338,7 +351,10 @@ fn time_short(plan: &[u8], times: &mut [u8], numbers: &mut [u8], directions: &mu
     if 80 < n {
         return time_small(plan, times, numbers, directions);
     }
-    time_tiny(plan, times, numbers, directions)
+    if 14 < n {
+        return time_tiny(plan, times, numbers, directions);
+    }
+    time_least(plan, times, numbers, directions)
 }
 
 // The times of the plan that a slice holds, or a chain. Shorter arrays are tried first where the table of paths is short.

@@ -65,8 +65,26 @@ same-length-9 c = search needs
 returns-4 : tie.Need-returns-4
 returns-4 c =
     let t = c .before .before .before .before .before .before in
-    let a = start (t .before .before .before .before .before .before .before) .args in
+    let a = start (t .before .before .before .before .before .before .before .before) .args in
     short-worked 1536 1536 (a .plan .now) (record { times = a .times .now; chain-bounds = a .numbers .now; chain-directions = a .directions .now }) 12288 12288 (omega arith) (t .time-tiny .result) _ (t .time-tiny .ensures)
+
+time-least-requires : tie.Need-time-least-requires
+time-least-requires c κs = search needs
+
+same-length-10 : tie.Need-same-length-10
+same-length-10 c = search needs
+
+same-length-11 : tie.Need-same-length-11
+same-length-11 c = search needs
+
+same-length-12 : tie.Need-same-length-12
+same-length-12 c = search needs
+
+returns-5 : tie.Need-returns-5
+returns-5 c =
+    let t = c .before .before .before .before .before .before in
+    let a = start (t .before .before .before .before .before .before .before .before) .args in
+    short-worked 256 256 (a .plan .now) (record { times = a .times .now; chain-bounds = a .numbers .now; chain-directions = a .directions .now }) 12288 12288 (omega arith) (t .time-least .result) _ (t .time-least .ensures)
 
 pub time-short-spec : {M : Type 1} → statement M
 time-short-spec =
@@ -88,4 +106,9 @@ time-short-spec =
     same-length-7
     same-length-8
     same-length-9
-    returns-4)
+    returns-4
+    time-least-requires
+    same-length-10
+    same-length-11
+    same-length-12
+    returns-5)
