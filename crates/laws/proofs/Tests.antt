@@ -1,7 +1,8 @@
 -- Tests that pass or fail, as equations. Assumes nothing.
-use Prim.Native.Nat.{ℕ, _≤_, _<_}
-use mathlib.Core.Path.{_≡_, refl}
-use mathlib.Core.Logic.{_⊎_, inl, inr}
+use Prim.Native.Nat.{ℕ, _+_, _≤_, _<_}
+use native.Mathlib.Omega.{arith}
+use mathlib.Core.Path.{_≡_, refl, subst}
+use mathlib.Core.Logic.{_⊎_, inl, inr, ⊎-elim}
 use mathlib.Core.Bool.{Bool, true, false, _||_}
 use lib.Dec.{T, ltb, ltb→lt, nltb→le}
 
@@ -28,3 +29,11 @@ below-or-not i j = by (ltb i j) refl
     by : (t : Bool) → ltb i j ≡ t → (i < j) ⊎ (j ≤ i)
     by true e = inl (ltb→lt i j (rw e tt))
     by false e = inr (nltb→le i j (rw e tt))
+
+-- what holds of each number below i, and of i, holds of each below the next
+pub one-more : (P : ℕ → Type 0) (i : ℕ) → ((j : ℕ) → j < i → P j) → P i → (j : ℕ) → j < i + 1 → P j
+one-more P i all at j h =
+    ⊎-elim
+    (λ (k : j < i). all j k)
+    (λ (k : i ≤ j). let e : i ≡ j = omega arith in subst P e at)
+    (below-or-not j i)

@@ -3,27 +3,18 @@ use Prim.Native.Nat.{ℕ, zero, suc, _+_, _*_, _≤_, _<_}
 use native.Mathlib.Numerals.{add-one}
 use native.Mathlib.Omega.{arith}
 use mathlib.Core.Path.{_≡_, refl, ap, sym, _∙_, subst}
-use mathlib.Core.Logic.{⊎-elim}
 use mathlib.Core.Bool.{Bool, true, false, _&&_}
 use mathlib.Core.List.{List, _∷_}
 use lib.Dec.{T, leb, leb→le, le→leb}
 use lib.ListN.{length, getD, drop, drop-of-length-le}
 use lib.Seq.{drop-cons}
 use mir.Facts.{and-yes, yes-and}
-use Rattle.laws.proofs.Tests.{passes, fails, below-or-not}
+use Rattle.laws.proofs.Tests.{passes, fails}
 use Rattle.network.specs.Bounds.{Bound}
 use Rattle.network.specs.BoundArrays.{bounds-in}
 use Rattle.passes.specs.Solving.{bounds-fit, network-fits}
 use Rattle.passes.specs.Places.{bound-at}
 use Rattle.passes.proofs.Fitting.{bounds-length, hi-number-of, bound-is, Fitting, fitting, fitting-passes, place-fits}
-
--- what holds of each number below i, and of i, holds of each below the next
-pub one-more : (P : ℕ → Type 0) (i : ℕ) → ((j : ℕ) → j < i → P j) → P i → (j : ℕ) → j < i + 1 → P j
-one-more P i all at j h =
-    ⊎-elim
-    (λ (k : j < i). all j k)
-    (λ (k : i ≤ j). let e : i ≡ j = omega arith in subst P e at)
-    (below-or-not j i)
 
 -- the limits
 pub record Limits (m n : ℕ) (ends ranges : List ℕ) : Type 0 where

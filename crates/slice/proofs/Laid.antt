@@ -86,6 +86,19 @@ text-goes s i h e =
     ∙ ap (λ (t : Bool). length {A = ℕ} (elim t as (λ _. List ℕ) [ true ↦ [] | false ↦ getD s i 0 ∷ until-zero (drop (suc i) s) ])) (ne-eqb (getD s i 0) 0 e)
     ∙ ap (λ (j : ℕ). suc (length (until-zero (drop j s)))) (sym (add-one i))
 
+-- as many bytes more as are none of them zero
+pub text-block : (s : List ℕ) (i k : ℕ) → i + k ≤ length s → ((j : ℕ) → j < k → 0 < getD s (i + j) 0)
+    → length (until-zero (drop i s)) ≡ k + length (until-zero (drop (i + k) s))
+text-block s i zero h f = let here : i ≡ i + 0 = omega arith in omega (arith, ap (λ (j : ℕ). length (until-zero (drop j s))) here)
+text-block s i (suc k) h f =
+    let first : i + 0 ≡ i = omega arith in
+    let one : length (until-zero (drop i s)) ≡ suc (length (until-zero (drop (i + 1) s))) =
+    text-goes s i (omega arith) (λ e. let some : 0 < getD s i 0 = subst (λ (j : ℕ). 0 < getD s j 0) first (f 0 (omega arith)) in omega (arith, e, some)) in
+    let rest : length (until-zero (drop (i + 1) s)) ≡ k + length (until-zero (drop (i + 1 + k) s)) =
+    text-block s (i + 1) k (omega arith) (λ j l. let next : i + suc j ≡ i + 1 + j = omega arith in subst (λ (m : ℕ). 0 < getD s m 0) next (f (suc j) (omega arith))) in
+    let end : i + 1 + k ≡ i + suc k = omega arith in
+    omega (arith, one, rest, ap (λ (m : ℕ). length (until-zero (drop m s))) end)
+
 -- none is left at the end
 pub text-over : (s : List ℕ) (i : ℕ) → length s ≤ i → length (until-zero (drop i s)) ≡ 0
 unfolding until-zero

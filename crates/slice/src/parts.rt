@@ -2,17 +2,49 @@
 use crate::Layout;
 use crate::part;
 ghost use mathlib.Core.Path.{_≡_};
-ghost use Prim.Native.Nat.{_≤_};
-ghost use lib.ListN.{length, drop};
+ghost use mathlib.Core.Bool.{false};
+ghost use Prim.Native.Nat.{ℕ, _+_, _≤_, _<_};
+ghost use lib.ListN.{length, drop, getD};
 ghost use Rattle.slice.specs.PlanSlice.{until-zero};
 ghost use Rattle.slice.specs.Holding.{only-zeros, layout};
 ghost use Rattle.slice.specs.Texts.{texts-laid};
 
-// How many bytes stand before the first zero.
+// Whether one of the 64 bytes from a place on is zero. It never stops early, so that many bytes can be compared at once.
+fn has_zero(s: &[u8], from: usize) -> bool
+    requires { ⌜ from + 64 ≤ length (now s) ⌝ }
+    ensures { λ r. ⌜ (r ≡ false → (j : ℕ) → j < 64 → 0 < getD (now (s .entry)) (from + j) 0) ⌝ }
+{
+    let mut least: u8 = 255;
+    let mut i: usize = 0;
+    while i < 64 {
+        let b = s[from + i];
+        if b < least {
+            least = b;
+        }
+        i += 1;
+    }
+    least == 0
+}
+
+// How many bytes stand in blocks of 64 before the first that has a zero.
+fn blocks_length(s: &[u8]) -> usize
+    ensures { λ r. ⌜ (r ≤ length (now (s .entry))) × (length (until-zero (now (s .entry))) ≡ r + length (until-zero (drop r (now (s .entry))))) ⌝ }
+{
+    let mut at: usize = 0;
+    while 64 <= s.len() - at {
+        if has_zero(s, at) {
+            return at;
+        }
+        at += 64;
+    }
+    at
+}
+
+// How many bytes stand before the first zero: block after block, and then byte after byte.
 fn text_length(s: &[u8]) -> usize
     ensures { λ r. ⌜ r ≡ length (until-zero (now (s .entry))) ⌝ }
 {
-    let mut i = 0;
+    let mut i = blocks_length(s);
     while i < s.len() {
         if s[i] == 0 {
             return i;

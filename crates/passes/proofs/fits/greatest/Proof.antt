@@ -4,7 +4,7 @@ use native.Mathlib.Omega.{arith}
 use mathlib.Core.Logic.{⊎-elim}
 use lib.ListN.{getD}
 use borrow.Author.Needs.{needs}
-use Rattle.passes.proofs.Networks.{one-more}
+use Rattle.laws.proofs.Tests.{one-more}
 use Rattle.passes.proofs.fits.greatest.Statement.{statement}
 use Rattle.passes.proofs.fits.greatest.Tie as tie
 

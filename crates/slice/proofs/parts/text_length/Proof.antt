@@ -15,8 +15,11 @@ Inv-loop s i₀ i = (i ≤ length s) × (length (until-zero s) ≡ i + length (u
 abbrev μ-loop : tie.MeasureT-loop
 μ-loop s i₀ i = length s - i
 
+blocks-length-requires : tie.Need-blocks-length-requires Inv-loop μ-loop
+blocks-length-requires c κs = search needs
+
 loop-holds : tie.Need-loop-holds Inv-loop μ-loop
-loop-holds c = (omega arith, omega arith)
+loop-holds c = c .blocks-length .ensures
 
 shared-slice-read-if1 : tie.Need-shared-slice-read-if1 Inv-loop μ-loop
 shared-slice-read-if1 c = search needs
@@ -24,7 +27,7 @@ shared-slice-read-if1 c = search needs
 returns : tie.Need-returns Inv-loop μ-loop
 returns c =
     let l = c .before .before .before .loop in
-    let s = c .before .before .before .before .args .s .now in
+    let s = c .before .before .before .before .before .before .args .s .now in
     omega (arith, l .inv .1, text-ends s (l .i) (omega arith) (c .if1 .taken))
 
 add-i : tie.Need-add-i Inv-loop μ-loop
@@ -36,14 +39,14 @@ loop-less c = search needs
 loop-again : tie.Need-loop-again Inv-loop μ-loop
 loop-again c =
     let l = c .before .before .before .loop in
-    let s = c .before .before .before .before .args .s .now in
+    let s = c .before .before .before .before .before .before .args .s .now in
     (omega arith, omega (arith, l .inv .1, text-goes s (l .i) (omega arith) (c .if1 .left)))
 
 returns-2 : tie.Need-returns-2 Inv-loop μ-loop
 returns-2 c =
     let l = c .before .loop in
-    let s = c .before .before .args .s .now in
+    let s = c .before .before .before .before .args .s .now in
     omega (arith, l .inv .1, text-over s (l .i) (omega arith))
 
 pub text-length-spec : {M : Type 1} → statement M
-text-length-spec = tie.close (tie.spec Inv-loop μ-loop loop-holds shared-slice-read-if1 returns add-i loop-less loop-again returns-2)
+text-length-spec = tie.close (tie.spec Inv-loop μ-loop blocks-length-requires loop-holds shared-slice-read-if1 returns add-i loop-less loop-again returns-2)
