@@ -1,6 +1,7 @@
 -- The plan that a slice holds, in arrays: what the code that reads it answers and leaves, on all input.
 -- Assumes nothing.
 use Prim.Native.Nat.{ℕ}
+use mathlib.Core.Path.{_≡_}
 use mathlib.Core.Bool.{Bool, true, false, _&&_, cond}
 use mathlib.Core.List.{List, [], _∷_}
 use mathlib.Core.Option.{Option, none, some}
@@ -10,6 +11,7 @@ use Rattle.floor.specs.Refusal.{Judged, refused, accepted}
 use Rattle.floor.specs.Plan.{Plan}
 use Rattle.floor.specs.Paths.{steps}
 use Rattle.floor.specs.Tables.{Tables, read-tables}
+use Rattle.tables.specs.Index.{Indexed, index-room}
 use Rattle.tables.specs.Reading.{Arrays, room, zeros, numbers-of}
 use Rattle.slice.specs.declared.Holding.{Holding}
 use Rattle.slice.specs.declared.Layout.{Layout}
@@ -79,18 +81,18 @@ laid-into plan edges speeds cells =
     let a : Arrays = record { roads = edges; carts = speeds; cells = cells } in
     where-room plan a (laying (length (log-in plan)) (laid plan)) (arrays-laid a (laid plan))
 
--- the same with an index of the roads: without room for it the arrays stay as they came
-unfoldable pub laid-indexed : Bool → List ℕ → List ℕ → List ℕ → List ℕ → Outcome
-laid-indexed false plan edges speeds cells = record { answer = Holding.TooShort; arrays = record { roads = edges; carts = speeds; cells = cells } }
-laid-indexed true plan edges speeds cells = laid-into plan edges speeds cells
-
 -- how many roads an answer tells of: none where no plan is read
 unfoldable pub roads-held : Holding → ℕ
 roads-held Holding.TooShort = 0
 roads-held Holding.NoPlan = 0
 roads-held (Holding.Held a b w n) = a
 
+-- what a reader that may leave the index half made has left of it: that of the roads where it tells of a plan, or without room what came
+pub record IndexHeld (x : Holding) (s heads nexts heads′ nexts′ : List ℕ) : Type 0 where
+  pub where-held : (i j w m : ℕ) → x ≡ Holding.Held i j w m → index-room heads nexts ≡ true → Indexed i s heads′ nexts′
+  pub else-same : index-room heads nexts ≡ false → (heads′ ≡ heads) × (nexts′ ≡ nexts)
+
 -- Names every definition of this module, for a proof that computes with them all.
 unfoldable pub open-holding : Unit {0}
-unfolding only-zeros layout holding arrays-held where-room read-slice plan-into plan-of laid laying arrays-laid laid-into laid-indexed roads-held
+unfolding only-zeros layout holding arrays-held where-room read-slice plan-into plan-of laid laying arrays-laid laid-into roads-held
 open-holding = tt

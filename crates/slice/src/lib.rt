@@ -5,15 +5,15 @@ use tables::Reading;
 ghost use mathlib.Core.Path.{_≡_};
 ghost use mathlib.Core.Bool.{true, _&&_};
 ghost use mathlib.Core.Option.{some};
-ghost use Prim.Native.Nat.{ℕ, _≤_};
+ghost use Prim.Native.Nat.{_≤_};
 ghost use lib.ListN.{length, take, drop};
-ghost use Rattle.tables.specs.Index.{Indexed};
-ghost use Rattle.tables.specs.Reading.{numbers-of, read-into, roads-read, index-room};
+ghost use Rattle.tables.specs.Index.{IndexLeft};
+ghost use Rattle.tables.specs.Reading.{numbers-of, read-into, roads-read};
 ghost use Rattle.limits.specs.Limits.{paths-within};
 ghost use Rattle.book.specs.Log.{log-book, is-book};
 ghost use Rattle.floor.specs.Plan.{Plan};
 ghost use Rattle.slice.specs.PlanSlice.{tables-in, log-in, nothing-else};
-ghost use Rattle.slice.specs.Holding.{laid, laying, laid-into, laid-indexed, roads-held, plan-into};
+ghost use Rattle.slice.specs.Holding.{laid, laying, laid-into, roads-held, IndexHeld, plan-into};
 ghost use Rattle.slice.specs.Entry.{with-entry};
 ghost use Rattle.schedule.specs.Book.{_at_};
 
@@ -94,12 +94,11 @@ fn read_texts(
     nexts: &mut [u16],
 ) -> Reading
     requires { ⌜ (233472 ≤ length (now plan)) × (r ≤ 65536) × (c ≤ 65536) × (p ≤ 65536) ⌝ }
-    requires { ⌜ (length (now heads) ≡ 1024) × (length (now nexts) ≡ 1024) ⌝ }
     ensures answer { λ x. ⌜ x ≡ read-into (take r (now (plan .entry))) (take c (drop 65536 (now (plan .entry)))) (take p (drop 131072 (now (plan .entry)))) (now (edges .entry)) (now (speeds .entry)) (now (cells .entry)) .answer ⌝ }
     ensures edges { λ _. ⌜ now (edges .exit) ≡ read-into (take r (now (plan .entry))) (take c (drop 65536 (now (plan .entry)))) (take p (drop 131072 (now (plan .entry)))) (now (edges .entry)) (now (speeds .entry)) (now (cells .entry)) .arrays .roads ⌝ }
     ensures speeds { λ _. ⌜ now (speeds .exit) ≡ read-into (take r (now (plan .entry))) (take c (drop 65536 (now (plan .entry)))) (take p (drop 131072 (now (plan .entry)))) (now (edges .entry)) (now (speeds .entry)) (now (cells .entry)) .arrays .carts ⌝ }
     ensures cells { λ _. ⌜ now (cells .exit) ≡ read-into (take r (now (plan .entry))) (take c (drop 65536 (now (plan .entry)))) (take p (drop 131072 (now (plan .entry)))) (now (edges .entry)) (now (speeds .entry)) (now (cells .entry)) .arrays .cells ⌝ }
-    ensures index { λ x. ⌜ Indexed (roads-read x) (now (edges .exit)) (now (heads .exit)) (now (nexts .exit)) ⌝ }
+    ensures index { λ x. ⌜ IndexLeft (roads-read x) (now (edges .exit)) (now (heads .entry)) (now (nexts .entry)) (now (heads .exit)) (now (nexts .exit)) ⌝ }
 {
     let carts = part(plan, 65_536, c);
     let paths = part(plan, 131_072, p);
@@ -122,10 +121,9 @@ fn read_parts(
     requires { ⌜ (233472 ≤ length (now plan)) × (nothing-else (now plan) (tables-in (now plan)) (log-in (now plan)) ≡ true) ⌝ }
     requires { ⌜ (r ≡ length (tables-in (now plan) .roads)) × (c ≡ length (tables-in (now plan) .carts)) × (p ≡ length (tables-in (now plan) .paths)) × (n ≡ length (log-in (now plan))) ⌝ }
     requires { ⌜ (4096 ≤ length (now edges)) × (128 ≤ length (now speeds)) × (8192 ≤ length (now cells)) ⌝ }
-    requires { ⌜ (length (now heads) ≡ 1024) × (length (now nexts) ≡ 1024) ⌝ }
     ensures answer { λ x. ⌜ x ≡ laying (length (log-in (now (plan .entry)))) (laid (now (plan .entry))) ⌝ }
     ensures left { λ _. ⌜ ((q : Plan) → laid (now (plan .entry)) ≡ some q → numbers-of (record { roads = now (edges .entry); carts = now (speeds .entry); cells = now (cells .entry) }) q ≡ record { roads = now (edges .exit); carts = now (speeds .exit); cells = now (cells .exit) }) ⌝ }
-    ensures index { λ x. ⌜ ((i j w m : ℕ) → x ≡ Holding.Held i j w m → Indexed i (now (edges .exit)) (now (heads .exit)) (now (nexts .exit))) ⌝ }
+    ensures index { λ x. ⌜ IndexHeld x (now (edges .exit)) (now (heads .entry)) (now (nexts .entry)) (now (heads .exit)) (now (nexts .exit)) ⌝ }
 {
     let x = read_texts(plan, r, c, p, edges, speeds, cells, heads, nexts);
     match x {
@@ -154,10 +152,9 @@ fn read_found(
     nexts: &mut [u16],
 ) -> Holding
     requires { ⌜ (233472 ≤ length (now plan)) × (4096 ≤ length (now edges)) × (128 ≤ length (now speeds)) × (8192 ≤ length (now cells)) ⌝ }
-    requires { ⌜ (length (now heads) ≡ 1024) × (length (now nexts) ≡ 1024) ⌝ }
     ensures answer { λ x. ⌜ x ≡ laying (length (log-in (now (plan .entry)))) (laid (now (plan .entry))) ⌝ }
     ensures left { λ _. ⌜ ((q : Plan) → laid (now (plan .entry)) ≡ some q → numbers-of (record { roads = now (edges .entry); carts = now (speeds .entry); cells = now (cells .entry) }) q ≡ record { roads = now (edges .exit); carts = now (speeds .exit); cells = now (cells .exit) }) ⌝ }
-    ensures index { λ x. ⌜ ((i j w m : ℕ) → x ≡ Holding.Held i j w m → Indexed i (now (edges .exit)) (now (heads .exit)) (now (nexts .exit))) ⌝ }
+    ensures index { λ x. ⌜ IndexHeld x (now (edges .exit)) (now (heads .entry)) (now (nexts .entry)) (now (heads .exit)) (now (nexts .exit)) ⌝ }
 {
     let x = parts::find_parts(plan);
     match x {
@@ -180,12 +177,11 @@ fn read_room(
     heads: &mut [u16],
     nexts: &mut [u16],
 ) -> Holding
-    requires { ⌜ (length (now heads) ≡ 1024) × (length (now nexts) ≡ 1024) ⌝ }
     ensures answer { λ r. ⌜ r ≡ laid-into (now (plan .entry)) (now (edges .entry)) (now (speeds .entry)) (now (cells .entry)) .answer ⌝ }
     ensures left { λ _. ⌜ now (edges .exit) ≡ laid-into (now (plan .entry)) (now (edges .entry)) (now (speeds .entry)) (now (cells .entry)) .arrays .roads ⌝ }
     ensures left_speeds { λ _. ⌜ now (speeds .exit) ≡ laid-into (now (plan .entry)) (now (edges .entry)) (now (speeds .entry)) (now (cells .entry)) .arrays .carts ⌝ }
     ensures left_cells { λ _. ⌜ now (cells .exit) ≡ laid-into (now (plan .entry)) (now (edges .entry)) (now (speeds .entry)) (now (cells .entry)) .arrays .cells ⌝ }
-    ensures index { λ x. ⌜ ((i j w m : ℕ) → x ≡ Holding.Held i j w m → Indexed i (now (edges .exit)) (now (heads .exit)) (now (nexts .exit))) ⌝ }
+    ensures index { λ x. ⌜ IndexHeld x (now (edges .exit)) (now (heads .entry)) (now (nexts .entry)) (now (heads .exit)) (now (nexts .exit)) ⌝ }
 {
     if plan.len() < 233_472 {
         return Holding::TooShort;
@@ -206,32 +202,8 @@ fn read_room(
     x
 }
 
-// The same where the index has room.
-fn read_where(
-    plan: &[u8],
-    edges: &mut [u32],
-    speeds: &mut [u32],
-    cells: &mut [u32],
-    heads: &mut [u16],
-    nexts: &mut [u16],
-) -> Holding
-    ensures answer { λ r. ⌜ r ≡ laid-indexed (index-room (now (heads .entry)) (now (nexts .entry))) (now (plan .entry)) (now (edges .entry)) (now (speeds .entry)) (now (cells .entry)) .answer ⌝ }
-    ensures left { λ _. ⌜ now (edges .exit) ≡ laid-indexed (index-room (now (heads .entry)) (now (nexts .entry))) (now (plan .entry)) (now (edges .entry)) (now (speeds .entry)) (now (cells .entry)) .arrays .roads ⌝ }
-    ensures left_speeds { λ _. ⌜ now (speeds .exit) ≡ laid-indexed (index-room (now (heads .entry)) (now (nexts .entry))) (now (plan .entry)) (now (edges .entry)) (now (speeds .entry)) (now (cells .entry)) .arrays .carts ⌝ }
-    ensures left_cells { λ _. ⌜ now (cells .exit) ≡ laid-indexed (index-room (now (heads .entry)) (now (nexts .entry))) (now (plan .entry)) (now (edges .entry)) (now (speeds .entry)) (now (cells .entry)) .arrays .cells ⌝ }
-    ensures index { λ x. ⌜ ((i j w m : ℕ) → x ≡ Holding.Held i j w m → Indexed i (now (edges .exit)) (now (heads .exit)) (now (nexts .exit))) ⌝ }
-{
-    if heads.len() != 1024 {
-        return Holding::TooShort;
-    }
-    if nexts.len() != 1024 {
-        return Holding::TooShort;
-    }
-    read_room(plan, edges, speeds, cells, heads, nexts)
-}
-
-// Reads the plan of a slice and the index of its roads. Its last limits, of events and bounds, and the log are left to the caller, who may count by
-// writing. Where no plan is read, the index is that of no road.
+// Reads the plan of a slice and hands on the index of its roads, where that has room; without a plan it is that of no road. Its last limits, of events and
+// bounds, and the log are left to the caller, who may count by writing.
 pub fn read_laid(
     plan: &[u8],
     edges: &mut [u32],
@@ -240,13 +212,19 @@ pub fn read_laid(
     heads: &mut [u16],
     nexts: &mut [u16],
 ) -> Holding
-    ensures answer { λ r. ⌜ r ≡ laid-indexed (index-room (now (heads .entry)) (now (nexts .entry))) (now (plan .entry)) (now (edges .entry)) (now (speeds .entry)) (now (cells .entry)) .answer ⌝ }
-    ensures left { λ _. ⌜ now (edges .exit) ≡ laid-indexed (index-room (now (heads .entry)) (now (nexts .entry))) (now (plan .entry)) (now (edges .entry)) (now (speeds .entry)) (now (cells .entry)) .arrays .roads ⌝ }
-    ensures left_speeds { λ _. ⌜ now (speeds .exit) ≡ laid-indexed (index-room (now (heads .entry)) (now (nexts .entry))) (now (plan .entry)) (now (edges .entry)) (now (speeds .entry)) (now (cells .entry)) .arrays .carts ⌝ }
-    ensures left_cells { λ _. ⌜ now (cells .exit) ≡ laid-indexed (index-room (now (heads .entry)) (now (nexts .entry))) (now (plan .entry)) (now (edges .entry)) (now (speeds .entry)) (now (cells .entry)) .arrays .cells ⌝ }
-    ensures index { λ r. ⌜ Indexed (roads-held r) (now (edges .exit)) (now (heads .exit)) (now (nexts .exit)) ⌝ }
+    ensures answer { λ r. ⌜ r ≡ laid-into (now (plan .entry)) (now (edges .entry)) (now (speeds .entry)) (now (cells .entry)) .answer ⌝ }
+    ensures left { λ _. ⌜ now (edges .exit) ≡ laid-into (now (plan .entry)) (now (edges .entry)) (now (speeds .entry)) (now (cells .entry)) .arrays .roads ⌝ }
+    ensures left_speeds { λ _. ⌜ now (speeds .exit) ≡ laid-into (now (plan .entry)) (now (edges .entry)) (now (speeds .entry)) (now (cells .entry)) .arrays .carts ⌝ }
+    ensures left_cells { λ _. ⌜ now (cells .exit) ≡ laid-into (now (plan .entry)) (now (edges .entry)) (now (speeds .entry)) (now (cells .entry)) .arrays .cells ⌝ }
+    ensures index { λ r. ⌜ IndexLeft (roads-held r) (now (edges .exit)) (now (heads .entry)) (now (nexts .entry)) (now (heads .exit)) (now (nexts .exit)) ⌝ }
 {
-    let x = read_where(plan, edges, speeds, cells, heads, nexts);
+    let x = read_room(plan, edges, speeds, cells, heads, nexts);
+    if heads.len() != 1024 {
+        return x;
+    }
+    if nexts.len() != 1024 {
+        return x;
+    }
     if let Holding::Held {
         roads: _,
         carts: _,
@@ -267,8 +245,8 @@ pub fn read_plan(plan: &[u8], edges: &mut [u32], speeds: &mut [u32], cells: &mut
     ensures left_speeds { λ _. ⌜ now (speeds .exit) ≡ plan-into (now (plan .entry)) (now (edges .entry)) (now (speeds .entry)) (now (cells .entry)) .arrays .carts ⌝ }
     ensures left_cells { λ _. ⌜ now (cells .exit) ≡ plan-into (now (plan .entry)) (now (edges .entry)) (now (speeds .entry)) (now (cells .entry)) .arrays .cells ⌝ }
 {
-    let mut heads: [u16; 1024] = [0; 1024];
-    let mut nexts: [u16; 1024] = [0; 1024];
+    let mut heads = [0u16; 1];
+    let mut nexts = [0u16; 1];
     let x = read_room(plan, edges, speeds, cells, &mut heads, &mut nexts);
     match x {
         Holding::TooShort => Holding::TooShort,

@@ -23,8 +23,8 @@ use Rattle.floor.specs.Carts.{read-carts}
 use Rattle.floor.specs.Paths.{read-paths, steps, off-road, first-same-cell, first-exchange}
 use Rattle.floor.specs.Tables.{Tables, read-tables}
 use Rattle.tables.specs.Arrays.{road-numbers, cart-numbers, path-cells}
-use Rattle.tables.specs.Index.{Indexed}
-use Rattle.tables.specs.Reading.{apart, read-apart, Arrays, room, Outcome, read-answer, zeros, numbers-of, arrays-judged, reading, read-into, roads-read, index-room, indexed-into}
+use Rattle.tables.specs.Index.{Indexed, index-room, IndexLeft}
+use Rattle.tables.specs.Reading.{apart, read-apart, Arrays, room, Outcome, read-answer, zeros, numbers-of, arrays-judged, reading, read-into, roads-read}
 use Rattle.floor.proofs.Judging.{refused-not-accepted, accepted-same, bind-accepted, none-found-accepted, goes-on, ends, kept-in-order}
 use Rattle.tables.proofs.RoadRecords.{road-fits}
 use Rattle.tables.proofs.Indexes.{none-indexed}
@@ -292,15 +292,6 @@ pub roads-told : (x : Reading) (n m w : ℕ) (s heads nexts : List ℕ) → x �
 unfolding roads-read
 roads-told x n m w s heads nexts e k = subst (λ (i : ℕ). Indexed i s heads nexts) (sym (ap roads-read e)) k
 
--- the answer and the three arrays are those of `indexed-into`, and the index is that of the roads read
-module _ (room : Bool) (r c p e s k : List ℕ) where
-  abbrev pub WithIndex : Reading → List ℕ → List ℕ → List ℕ → List ℕ → List ℕ → Type 0
-  WithIndex answer edges speeds cells heads nexts =
-      (answer ≡ indexed-into room r c p e s k .answer)
-      × ((edges ≡ indexed-into room r c p e s k .arrays .roads)
-      × ((speeds ≡ indexed-into room r c p e s k .arrays .carts)
-      × ((cells ≡ indexed-into room r c p e s k .arrays .cells) × Indexed (roads-read answer) edges heads nexts)))
-
 -- an index has 1,024 places each
 pub index-other : (h n : List ℕ) → (length h ≢ 1024) ⊎ (length n ≢ 1024) → index-room h n ≡ false
 unfolding index-room
@@ -311,17 +302,26 @@ pub index-fits : (h n : List ℕ) → length h ≡ 1024 → length n ≡ 1024 �
 unfolding index-room
 index-fits h n a b = simp (eq-eqb (length h) 1024 a, eq-eqb (length n) 1024 b)
 
--- no room for an index
-pub index-short : (h n r c p e s k heads nexts : List ℕ) → index-room h n ≡ false → (i j : ℕ) → heads ≡ replicate i 0 → nexts ≡ replicate j 0
-    → WithIndex (index-room h n) r c p e s k Reading.TooShort e s k heads nexts
-unfolding indexed-into roads-read
-index-short h n r c p e s k heads nexts q i j x y =
-    subst (λ (b : Bool). WithIndex b r c p e s k Reading.TooShort e s k heads nexts) (sym q) (refl, (refl, (refl, (refl, none-indexed i j e heads nexts x y))))
+-- what is left of the arrays lent for an index, in three cases: no room
+pub index-short : (n : ℕ) (s h k : List ℕ) → (length h ≢ 1024) ⊎ (length k ≢ 1024) → IndexLeft n s h k h k
+index-short n s h k o = record { where-room = λ e. absurd (true≢false (sym e ∙ index-other h k o)); else-same = λ e. (refl, refl) }
 
--- room for one
-pub index-there : (h n r c p e s k : List ℕ) → index-room h n ≡ true → (x : Reading) (edges speeds cells heads nexts heads′ nexts′ : List ℕ)
-    → IntoIndexed r c p e s k x edges speeds cells heads nexts → Indexed (roads-read x) edges heads′ nexts′
-    → WithIndex (index-room h n) r c p e s k x edges speeds cells heads′ nexts′
-unfolding indexed-into
-index-there h n r c p e s k q x edges speeds cells heads nexts heads′ nexts′ (a, (b, (d, (f, _)))) i =
-    subst (λ (t : Bool). WithIndex t r c p e s k x edges speeds cells heads′ nexts′) (sym q) (a, (b, (d, (f, i))))
+-- room, and that of the roads
+pub index-there : (n : ℕ) (s h k h′ k′ : List ℕ) → length h ≡ 1024 → length k ≡ 1024 → Indexed n s h′ k′ → IndexLeft n s h k h′ k′
+index-there n s h k h′ k′ lh lk i = record { where-room = λ e. i; else-same = λ e. absurd (true≢false (sym (index-fits h k lh lk) ∙ e)) }
+
+-- where there is room it is there
+pub index-is : (n : ℕ) (s h k h′ k′ : List ℕ) → length h ≡ 1024 → length k ≡ 1024 → IndexLeft n s h k h′ k′ → Indexed n s h′ k′
+index-is n s h k h′ k′ lh lk l = l .where-room (index-fits h k lh lk)
+
+-- a copy of an index is one
+pub index-copied : (n : ℕ) (s h k h′ k′ : List ℕ) → h′ ≡ h → k′ ≡ k → Indexed n s h k → Indexed n s h′ k′
+index-copied n s h k h′ k′ p q i = subst (λ (x : List ℕ). Indexed n s h′ x) (sym q) (subst (λ (x : List ℕ). Indexed n s x k) (sym p) i)
+
+-- the answer and three arrays, and beside them what is left of the index
+pub beside-index : {A B C D X Y : Type 0} → A × (B × (C × (D × X))) → Y → A × (B × (C × (D × Y)))
+beside-index (a, (b, (c, (d, _)))) y = (a, (b, (c, (d, y))))
+
+-- without it
+pub without-index : {A B C D X : Type 0} → A × (B × (C × (D × X))) → A × (B × (C × D))
+without-index (a, (b, (c, (d, _)))) = (a, (b, (c, d)))

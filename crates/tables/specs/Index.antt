@@ -2,10 +2,10 @@
 -- Assumes nothing.
 use Prim.Native.Nat.{ℕ, zero, suc, _+_, _*_, _%_, _≤_, _<_}
 use mathlib.Core.Path.{_≡_}
-use mathlib.Core.Bool.{cond}
+use mathlib.Core.Bool.{Bool, true, false, _&&_, cond}
 use mathlib.Core.List.{List}
 use lib.Dec.{eqb}
-use lib.ListN.{getD}
+use lib.ListN.{length, getD}
 
 -- the remainder of a road between two cells: the same both ways
 unfoldable pub bucket : ℕ → ℕ → ℕ
@@ -27,7 +27,16 @@ pub record Indexed (n : ℕ) (s heads nexts : List ℕ) : Type 0 where
   pub nexts-are : (j : ℕ) → j < n → getD nexts j 0 ≡ last-in s (bucket-at s j) j
   pub nexts-end : (j : ℕ) → n ≤ j → getD nexts j 0 ≡ 0
 
+-- an index has 1,024 places for remainders and as many for roads
+unfoldable pub index-room : List ℕ → List ℕ → Bool
+index-room heads nexts = eqb (length heads) 1024 && eqb (length nexts) 1024
+
+-- what is left of two arrays lent for an index: that of n roads, or without room they stay as they came
+pub record IndexLeft (n : ℕ) (s heads nexts heads′ nexts′ : List ℕ) : Type 0 where
+  pub where-room : index-room heads nexts ≡ true → Indexed n s heads′ nexts′
+  pub else-same : index-room heads nexts ≡ false → (heads′ ≡ heads) × (nexts′ ≡ nexts)
+
 -- Names every definition of this module, for a proof that computes with them all.
 unfoldable pub open-index : Unit {0}
-unfolding bucket bucket-at last-in
+unfolding bucket bucket-at last-in index-room
 open-index = tt

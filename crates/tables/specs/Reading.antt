@@ -145,16 +145,7 @@ unfoldable pub read-into : List ℕ → List ℕ → List ℕ → List ℕ → L
 read-into roads carts paths edges speeds cells =
     reading (record { roads = roads; carts = carts; paths = paths }) (record { roads = edges; carts = speeds; cells = cells })
 
--- the index of the roads has 1,024 places for remainders and as many for roads
-unfoldable pub index-room : List ℕ → List ℕ → Bool
-index-room heads nexts = eqb (length heads) 1024 && eqb (length nexts) 1024
-
--- the same with an index: without room for it the arrays stay as they came
-unfoldable pub indexed-into : Bool → List ℕ → List ℕ → List ℕ → List ℕ → List ℕ → List ℕ → Outcome
-indexed-into false roads carts paths edges speeds cells = record { answer = Reading.TooShort; arrays = record { roads = edges; carts = speeds; cells = cells } }
-indexed-into true roads carts paths edges speeds cells = read-into roads carts paths edges speeds cells
-
 -- Names every definition of this module, for a proof that computes with them all.
 unfoldable pub open-reading : Unit {0}
-unfolding taken stored counted speeds speeds-of road-read path-taken paths-read apart read-apart room read-answer roads-read zeros numbers-of arrays-judged reading read-into index-room indexed-into
+unfolding taken stored counted speeds speeds-of road-read path-taken paths-read apart read-apart room read-answer roads-read zeros numbers-of arrays-judged reading read-into
 open-reading = tt

@@ -16,8 +16,8 @@ ghost use Rattle.floor.specs.Refusal.{accepted};
 ghost use Rattle.floor.specs.Plan.{Plan};
 ghost use Rattle.floor.specs.Tables.{read-tables};
 ghost use Rattle.tables.specs.Arrays.{road-numbers, cart-numbers, path-cells, roads-in, paths-in};
-ghost use Rattle.tables.specs.Index.{Indexed};
-ghost use Rattle.tables.specs.Reading.{apart, read-apart, paths-read, read-answer, read-into, roads-read, index-room, indexed-into};
+ghost use Rattle.tables.specs.Index.{Indexed, IndexLeft};
+ghost use Rattle.tables.specs.Reading.{apart, read-apart, paths-read, read-answer, read-into, roads-read};
 ghost use Rattle.words.specs.Words.{padded};
 
 // What the reader of the tables answers: how many roads, carts and steps there are, or why there is no plan.
@@ -241,7 +241,80 @@ fn read_arrays(
     }
 }
 
-// The same without an index.
+// Zeros in every place of an array of two-byte numbers, as those of an index.
+pub fn clear_narrow(numbers: &mut [u16])
+    ensures { λ _. ⌜ now (numbers .exit) ≡ replicate (length (now (numbers .entry))) 0 ⌝ }
+{
+    let mut at = 0;
+    while at < numbers.len() {
+        numbers[at] = 0;
+        at += 1;
+    }
+}
+
+// One array of two-byte numbers copied to another that is as long.
+fn copy_narrow(from: &[u16], to: &mut [u16])
+    requires { ⌜ length (now to) ≡ length (now from) ⌝ }
+    ensures { λ _. ⌜ now (to .exit) ≡ now (from .entry) ⌝ }
+{
+    let mut k = 0;
+    while k < from.len() {
+        to[k] = from[k];
+        k += 1;
+    }
+}
+
+// The same with the index of the roads handed on, so that who goes along them need not make it again: in two arrays of 1,024 places, as that of no road
+// where no plan is read. It is made in memory of its own, which is free again when the limits are counted.
+pub fn read_indexed(
+    roads: &[u8],
+    carts: &[u8],
+    paths: &[u8],
+    edges: &mut [u32],
+    speeds: &mut [u32],
+    cells: &mut [u32],
+    heads: &mut [u16],
+    nexts: &mut [u16],
+) -> Reading
+    ensures answer { λ r. ⌜ r ≡ read-into (now (roads .entry)) (now (carts .entry)) (now (paths .entry)) (now (edges .entry)) (now (speeds .entry)) (now (cells .entry)) .answer ⌝ }
+    ensures edges { λ _. ⌜ now (edges .exit) ≡ read-into (now (roads .entry)) (now (carts .entry)) (now (paths .entry)) (now (edges .entry)) (now (speeds .entry)) (now (cells .entry)) .arrays .roads ⌝ }
+    ensures speeds { λ _. ⌜ now (speeds .exit) ≡ read-into (now (roads .entry)) (now (carts .entry)) (now (paths .entry)) (now (edges .entry)) (now (speeds .entry)) (now (cells .entry)) .arrays .carts ⌝ }
+    ensures cells { λ _. ⌜ now (cells .exit) ≡ read-into (now (roads .entry)) (now (carts .entry)) (now (paths .entry)) (now (edges .entry)) (now (speeds .entry)) (now (cells .entry)) .arrays .cells ⌝ }
+    ensures index { λ r. ⌜ IndexLeft (roads-read r) (now (edges .exit)) (now (heads .entry)) (now (nexts .entry)) (now (heads .exit)) (now (nexts .exit)) ⌝ }
+{
+    let mut lasts: [u16; 1024] = [0; 1024];
+    let mut befores: [u16; 1024] = [0; 1024];
+    let x = read_arrays(
+        roads,
+        carts,
+        paths,
+        edges,
+        speeds,
+        cells,
+        &mut lasts,
+        &mut befores,
+    );
+    if heads.len() != 1024 {
+        return x;
+    }
+    if nexts.len() != 1024 {
+        return x;
+    }
+    if let Reading::Read {
+        roads: _,
+        carts: _,
+        steps: _,
+    } = x {
+        copy_narrow(&lasts, heads);
+        copy_narrow(&befores, nexts);
+        return x;
+    }
+    clear_narrow(heads);
+    clear_narrow(nexts);
+    x
+}
+
+// The same without an index: it is not handed on to arrays of one place.
 pub fn read_tables(
     roads: &[u8],
     carts: &[u8],
@@ -255,9 +328,9 @@ pub fn read_tables(
     ensures speeds { λ _. ⌜ now (speeds .exit) ≡ read-into (now (roads .entry)) (now (carts .entry)) (now (paths .entry)) (now (edges .entry)) (now (speeds .entry)) (now (cells .entry)) .arrays .carts ⌝ }
     ensures cells { λ _. ⌜ now (cells .exit) ≡ read-into (now (roads .entry)) (now (carts .entry)) (now (paths .entry)) (now (edges .entry)) (now (speeds .entry)) (now (cells .entry)) .arrays .cells ⌝ }
 {
-    let mut heads: [u16; 1024] = [0; 1024];
-    let mut nexts: [u16; 1024] = [0; 1024];
-    read_arrays(
+    let mut heads = [0u16; 1];
+    let mut nexts = [0u16; 1];
+    read_indexed(
         roads,
         carts,
         paths,
@@ -267,54 +340,4 @@ pub fn read_tables(
         &mut heads,
         &mut nexts,
     )
-}
-
-// Zeros in every place of an array of two-byte numbers, as those of an index.
-pub fn clear_narrow(numbers: &mut [u16])
-    ensures { λ _. ⌜ now (numbers .exit) ≡ replicate (length (now (numbers .entry))) 0 ⌝ }
-{
-    let mut at = 0;
-    while at < numbers.len() {
-        numbers[at] = 0;
-        at += 1;
-    }
-}
-
-// The same with the index of the roads, in arrays of 1,024 places each, so that who goes along roads need not make it again. Where no plan is read it is
-// that of no road.
-pub fn read_indexed(
-    roads: &[u8],
-    carts: &[u8],
-    paths: &[u8],
-    edges: &mut [u32],
-    speeds: &mut [u32],
-    cells: &mut [u32],
-    heads: &mut [u16],
-    nexts: &mut [u16],
-) -> Reading
-    ensures answer { λ r. ⌜ r ≡ indexed-into (index-room (now (heads .entry)) (now (nexts .entry))) (now (roads .entry)) (now (carts .entry)) (now (paths .entry)) (now (edges .entry)) (now (speeds .entry)) (now (cells .entry)) .answer ⌝ }
-    ensures edges { λ _. ⌜ now (edges .exit) ≡ indexed-into (index-room (now (heads .entry)) (now (nexts .entry))) (now (roads .entry)) (now (carts .entry)) (now (paths .entry)) (now (edges .entry)) (now (speeds .entry)) (now (cells .entry)) .arrays .roads ⌝ }
-    ensures speeds { λ _. ⌜ now (speeds .exit) ≡ indexed-into (index-room (now (heads .entry)) (now (nexts .entry))) (now (roads .entry)) (now (carts .entry)) (now (paths .entry)) (now (edges .entry)) (now (speeds .entry)) (now (cells .entry)) .arrays .carts ⌝ }
-    ensures cells { λ _. ⌜ now (cells .exit) ≡ indexed-into (index-room (now (heads .entry)) (now (nexts .entry))) (now (roads .entry)) (now (carts .entry)) (now (paths .entry)) (now (edges .entry)) (now (speeds .entry)) (now (cells .entry)) .arrays .cells ⌝ }
-    ensures index { λ r. ⌜ Indexed (roads-read r) (now (edges .exit)) (now (heads .exit)) (now (nexts .exit)) ⌝ }
-{
-    clear_narrow(heads);
-    clear_narrow(nexts);
-    if heads.len() != 1024 {
-        return Reading::TooShort;
-    }
-    if nexts.len() != 1024 {
-        return Reading::TooShort;
-    }
-    let x = read_arrays(roads, carts, paths, edges, speeds, cells, heads, nexts);
-    if let Reading::Read {
-        roads: _,
-        carts: _,
-        steps: _,
-    } = x {
-        return x;
-    }
-    clear_narrow(heads);
-    clear_narrow(nexts);
-    x
 }

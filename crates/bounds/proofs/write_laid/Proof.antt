@@ -3,8 +3,9 @@ use Prim.Native.Nat.{ℕ}
 use mathlib.Core.Path.{_∙_}
 use lib.ListN.{replicate, length-replicate}
 use borrow.Author.Needs.{needs}
+use Rattle.tables.proofs.TablesRead.{without-index}
 use Rattle.slice.proofs.Holds.{LaidLeft, unlaid-none}
-use Rattle.slice.proofs.Indexing.{laid-without, index-held}
+use Rattle.slice.proofs.Indexing.{index-held}
 use Rattle.slice.proofs.LaidPlan.{never-short, not-laid, laid-there}
 use Rattle.bounds.specs.Links.{RoadsLinked}
 use Rattle.bounds.proofs.Written.{none-held}
@@ -45,9 +46,7 @@ enum-known-x c = search needs
 -- what was read, and left in the arrays
 read : (r : tie.After-read-laid)
     → LaidLeft (start r .args .plan .now) (replicate 4096 0) (replicate 128 0) (replicate 8192 0) (r .read-laid .result) (r .read-laid .last .1 .0) (r .read-laid .last .1 .1 .0) (r .read-laid .last .1 .1 .1 .0)
-read r =
-    laid-without (replicate 1024 0) (replicate 1024 0) _ (replicate 4096 0) (replicate 128 0) (replicate 8192 0) (length-replicate {A = ℕ} 1024 0) (length-replicate {A = ℕ} 1024 0) _ _ _ _ _
-    (r .read-laid .ensures)
+read r = without-index (r .read-laid .ensures)
 
 -- the roads are linked, where a plan is there
 linked : (k : tie.After-x)
@@ -57,7 +56,7 @@ linked k =
     let r = k .before .before .before .before .before .before .before in (
       r .read-laid .kept .1 .1 .1 .1 .0 ∙ length-replicate {A = ℕ} 1024 0,
       r .read-laid .kept .1 .1 .1 .1 .1 .0 ∙ length-replicate {A = ℕ} 1024 0,
-      index-held _ _ _ _ _ _ _ _ (k .x .given .1) (r .read-laid .ensures .1 .1 .1 .1),
+      index-held _ _ _ _ _ _ _ _ _ _ (k .x .given .1) (length-replicate {A = ℕ} 1024 0) (length-replicate {A = ℕ} 1024 0) (r .read-laid .ensures .1 .1 .1 .1),
     )
 
 slice-aggregate-write-both : tie.Need-slice-aggregate-write-both

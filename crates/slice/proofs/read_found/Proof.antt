@@ -2,7 +2,7 @@
 use mathlib.Core.Path.{sym, _∙_}
 use borrow.Author.Needs.{needs}
 use Rattle.slice.proofs.Holds.{broken-laid, parts-found}
-use Rattle.slice.proofs.Indexing.{none-not-held}
+use Rattle.slice.proofs.Indexing.{index-broken}
 use Rattle.slice.proofs.read_found.Statement.{statement}
 use Rattle.slice.proofs.read_found.Tie as tie
 
@@ -21,13 +21,13 @@ read-parts-requires c κs =
     let f = x .before .before in
     let b = f .before .before .before .before .before .before .before in
     let (alone, (r, (p, (q, n)))) = parts-found (b .args .plan .now) _ _ _ _ (sym (x .x .given .1) ∙ f .find-parts .ensures) in
-    ((b .pre .0 .0, alone), ((r, p, q, n), ((b .pre .0 .1, b .pre .0 .2, b .pre .0 .3), b .pre .1)))
+    ((b .pre .0, alone), ((r, p, q, n), (b .pre .1, b .pre .2, b .pre .3)))
 
 returns : tie.Need-returns
 returns c =
     let f = c .before .before in
     let (x, y) = broken-laid (f .before .before .before .before .before .before .before .args .plan .now) _ _ (sym (c .enum-told .given .1) ∙ f .find-parts .ensures) in
-    (x, (y, λ i j w m g. absurd (none-not-held i j w m g)))
+    (x, (y, index-broken _ _ _))
 
 same-length : tie.Need-same-length
 same-length c = search needs

@@ -2,7 +2,8 @@
 use native.Mathlib.Omega.{arith}
 use borrow.Author.Needs.{needs}
 use Rattle.slice.proofs.Holds.{tables-few, parts-refused, parts-short, parts-laid}
-use Rattle.slice.proofs.Indexing.{none-not-held, held-index}
+use Rattle.tables.proofs.TablesRead.{without-index}
+use Rattle.slice.proofs.Indexing.{index-refused, index-read}
 use Rattle.slice.proofs.read_parts.Statement.{statement}
 use Rattle.slice.proofs.read_parts.Tie as tie
 
@@ -15,7 +16,7 @@ read-texts-requires c κs =
     let b = c .before .before .before .before .before .before .before .before .before .before .before in
     let few = tables-few (b .args .plan .now) in
     let sizes = b .pre .1 .0 in
-    ((b .pre .0 .0, omega (arith, sizes .0, few .0), omega (arith, sizes .1, few .1 .0), omega (arith, sizes .2, few .1 .1)), b .pre .1 .1 .1)
+    (b .pre .0 .0, omega (arith, sizes .0, few .0), omega (arith, sizes .1, few .1 .0), omega (arith, sizes .2, few .1 .1))
 
 enum-told : tie.Need-enum-told
 enum-told c = search needs
@@ -77,8 +78,8 @@ returns c =
     let b = start t in
     let e = t .read-texts .ensures in
     let (x, y) = parts-refused (b .args .plan .now) (b .pre .0 .1) (b .args .r) (b .args .c) (b .args .p) (b .args .n) (b .pre .1 .0)
-    (b .args .edges .now) (b .args .speeds .now) (b .args .cells .now) (b .pre .1 .1 .0) _ _ _ _ (e .0, (e .1 .0, (e .1 .1 .0, e .1 .1 .1 .0))) _ (c .enum-told .given .1) in
-    (x, (y, λ i j w m f. absurd (none-not-held i j w m f)))
+    (b .args .edges .now) (b .args .speeds .now) (b .args .cells .now) (b .pre .1 .1) _ _ _ _ (without-index e) _ (c .enum-told .given .1) in
+    (x, (y, index-refused _ _ _ _ _ _ (e .1 .1 .1 .1)))
 
 returns-2 : tie.Need-returns-2
 returns-2 c =
@@ -86,8 +87,8 @@ returns-2 c =
     let b = start t in
     let e = t .read-texts .ensures in
     let (x, y) = parts-short (b .args .plan .now) (b .pre .0 .1) (b .args .r) (b .args .c) (b .args .p) (b .args .n) (b .pre .1 .0)
-    (b .args .edges .now) (b .args .speeds .now) (b .args .cells .now) (b .pre .1 .1 .0) _ _ _ _ (e .0, (e .1 .0, (e .1 .1 .0, e .1 .1 .1 .0))) (c .enum-told2 .given .1) in
-    (x, (y, λ i j w m f. absurd (none-not-held i j w m f)))
+    (b .args .edges .now) (b .args .speeds .now) (b .args .cells .now) (b .pre .1 .1) _ _ _ _ (without-index e) (c .enum-told2 .given .1) in
+    (x, (y, index-refused _ _ _ _ _ _ (e .1 .1 .1 .1)))
 
 returns-3 : tie.Need-returns-3
 returns-3 c =
@@ -95,8 +96,8 @@ returns-3 c =
     let b = start t in
     let e = t .read-texts .ensures in
     let (x, y) = parts-laid (b .args .plan .now) (b .pre .0 .1) (b .args .r) (b .args .c) (b .args .p) (b .args .n) (b .pre .1 .0)
-    (b .args .edges .now) (b .args .speeds .now) (b .args .cells .now) (b .pre .1 .1 .0) _ _ _ _ (e .0, (e .1 .0, (e .1 .1 .0, e .1 .1 .1 .0))) _ _ _ (c .before .x .given .1) in
-    (x, (y, held-index _ _ _ _ (b .args .n) _ _ _ (c .before .x .given .1) (e .1 .1 .1 .1)))
+    (b .args .edges .now) (b .args .speeds .now) (b .args .cells .now) (b .pre .1 .1) _ _ _ _ (without-index e) _ _ _ (c .before .x .given .1) in
+    (x, (y, index-read _ _ _ _ (b .args .n) _ _ _ _ _ (c .before .x .given .1) (e .1 .1 .1 .1)))
 
 pub read-parts-spec : {M : Type 1} → statement M
 read-parts-spec =

@@ -1,10 +1,10 @@
 -- `slice::read_plan` meets its contract, on all input: what is laid out is not there, passes the limits, has a log that is refused, or is held. Assumes nothing.
 use Prim.Native.Nat.{ℕ}
 use mathlib.Core.Path.{ap, _∙_}
-use lib.ListN.{replicate, length-replicate}
+use lib.ListN.{replicate}
 use borrow.Author.Needs.{needs}
 use Rattle.slice.proofs.Holds.{plan-short, plan-none, slice-long, reports-few, plan-held, plan-not-held}
-use Rattle.slice.proofs.Indexing.{front}
+use Rattle.tables.proofs.TablesRead.{without-index}
 use Rattle.slice.proofs.read_plan.Statement.{statement}
 use Rattle.slice.proofs.read_plan.Tie as tie
 
@@ -23,7 +23,7 @@ slice-aggregate-read-room-2 : tie.Need-slice-aggregate-read-room-2
 slice-aggregate-read-room-2 c = search needs
 
 read-room-requires : tie.Need-read-room-requires
-read-room-requires c κs = (length-replicate {A = ℕ} 1024 0, length-replicate {A = ℕ} 1024 0)
+read-room-requires c κs = search needs
 
 enum-told : tie.Need-enum-told
 enum-told c = search needs
@@ -39,7 +39,7 @@ accepts-log-requires c κs =
     let k = c .before .before in
     let r = laid (k .before .before) in
     let a = start r .args in
-    (slice-long (a .plan .now) (a .edges .now) (a .speeds .now) (a .cells .now) _ _ _ _ (front (r .read-room .ensures)) _ _ _ _ (k .x .given .1), reports-few (a .plan .now) (a .edges .now) (a .speeds .now) (a .cells .now) _ _ _ _ (front (r .read-room .ensures)) _ _ _ _ (k .x .given .1))
+    (slice-long (a .plan .now) (a .edges .now) (a .speeds .now) (a .cells .now) _ _ _ _ (without-index (r .read-room .ensures)) _ _ _ _ (k .x .given .1), reports-few (a .plan .now) (a .edges .now) (a .speeds .now) (a .cells .now) _ _ _ _ (without-index (r .read-room .ensures)) _ _ _ _ (k .x .given .1))
 
 same-length : tie.Need-same-length
 same-length c = search needs
@@ -56,7 +56,7 @@ returns c =
     let k = g .before .before .before in
     let r = laid (k .before .before) in
     let a = start r .args in
-    plan-held (a .plan .now) (a .edges .now) (a .speeds .now) (a .cells .now) _ _ _ _ (front (r .read-room .ensures)) _ _ _ _ (k .x .given .1) _ (g .accepts-log .ensures) (c .if1 .taken)
+    plan-held (a .plan .now) (a .edges .now) (a .speeds .now) (a .cells .now) _ _ _ _ (without-index (r .read-room .ensures)) _ _ _ _ (k .x .given .1) _ (g .accepts-log .ensures) (c .if1 .taken)
 
 clear-all-requires : tie.Need-clear-all-requires
 clear-all-requires c κs = search needs
@@ -74,7 +74,7 @@ returns-2 : tie.Need-returns-2
 returns-2 c =
     let r = laid (c .before .before) in
     let a = start r .args in
-    plan-short (a .plan .now) (a .edges .now) (a .speeds .now) (a .cells .now) _ _ _ _ (front (r .read-room .ensures)) (c .enum-told .given .1)
+    plan-short (a .plan .now) (a .edges .now) (a .speeds .now) (a .cells .now) _ _ _ _ (without-index (r .read-room .ensures)) (c .enum-told .given .1)
 
 same-length-7 : tie.Need-same-length-7
 same-length-7 c = search needs
@@ -89,7 +89,7 @@ returns-3 : tie.Need-returns-3
 returns-3 c =
     let r = laid (c .before .before) in
     let a = start r .args in
-    plan-none (a .plan .now) (a .edges .now) (a .speeds .now) (a .cells .now) _ _ _ _ (front (r .read-room .ensures)) (c .enum-told2 .given .1)
+    plan-none (a .plan .now) (a .edges .now) (a .speeds .now) (a .cells .now) _ _ _ _ (without-index (r .read-room .ensures)) (c .enum-told2 .given .1)
 
 same-length-10 : tie.Need-same-length-10
 same-length-10 c = search needs
@@ -109,7 +109,7 @@ returns-4 c =
     let r = laid (k .before .before) in
     let a = start r .args in
     let f = w .clear-all .ensures in
-    plan-not-held (a .plan .now) (a .edges .now) (a .speeds .now) (a .cells .now) _ _ _ _ (front (r .read-room .ensures)) _ _ _ _ (k .x .given .1) _ (g .accepts-log .ensures) (o .if1 .left) _ _ _
+    plan-not-held (a .plan .now) (a .edges .now) (a .speeds .now) (a .cells .now) _ _ _ _ (without-index (r .read-room .ensures)) _ _ _ _ (k .x .given .1) _ (g .accepts-log .ensures) (o .if1 .left) _ _ _
     (f .0 ∙ ap (λ (n : ℕ). replicate n 0) (r .read-room .kept .1 .0))
     (f .1 .0 ∙ ap (λ (n : ℕ). replicate n 0) (r .read-room .kept .1 .1 .0))
     (f .1 .1 ∙ ap (λ (n : ℕ). replicate n 0) (r .read-room .kept .1 .1 .1 .0))

@@ -1,6 +1,6 @@
 -- `slice::read_room` meets its contract, on all input. Assumes nothing.
 use Prim.Native.Nat.{ℕ}
-use mathlib.Core.Path.{_≡_, ap, sym, _∙_, subst}
+use mathlib.Core.Path.{_≡_, ap, _∙_, subst}
 use mathlib.Core.Bool.{true, _&&_}
 use lib.Dec.{leb}
 use mathlib.Core.Logic.{inl, inr}
@@ -13,7 +13,7 @@ use Rattle.slice.specs.declared.Holding.{Holding}
 use Rattle.slice.proofs.Holding.{the-type}
 use borrow.Author.Needs.{needs}
 use Rattle.slice.proofs.Holds.{slice-over, array-over, all-long, laid-none, laid-there}
-use Rattle.slice.proofs.Indexing.{short-not-held, none-not-held}
+use Rattle.slice.proofs.Indexing.{index-too-short, index-none}
 use Rattle.slice.proofs.read_room.Statement.{statement}
 use Rattle.slice.proofs.read_room.Tie as tie
 
@@ -21,25 +21,25 @@ returns : tie.Need-returns
 returns c =
     let a = c .before .before .before .before .before .before .before .args in
     let (x, (y, (z, w))) = slice-over (a .plan .now) (a .edges .now) (a .speeds .now) (a .cells .now) (c .if1 .taken) in
-    (x, (y, (z, (w, λ i j u m f. absurd (short-not-held i j u m f)))))
+    (x, (y, (z, (w, index-too-short _ _ _))))
 
 returns-2 : tie.Need-returns-2
 returns-2 c =
     let a = c .before .before .before .before .before .before .before .before .args in
     let (x, (y, (z, w))) = array-over (a .plan .now) (a .edges .now) (a .speeds .now) (a .cells .now) (inl (c .if2 .taken)) in
-    (x, (y, (z, (w, λ i j u m f. absurd (short-not-held i j u m f)))))
+    (x, (y, (z, (w, index-too-short _ _ _))))
 
 returns-3 : tie.Need-returns-3
 returns-3 c =
     let a = c .before .before .before .before .before .before .before .before .before .args in
     let (x, (y, (z, w))) = array-over (a .plan .now) (a .edges .now) (a .speeds .now) (a .cells .now) (inr (inl (c .if3 .taken))) in
-    (x, (y, (z, (w, λ i j u m f. absurd (short-not-held i j u m f)))))
+    (x, (y, (z, (w, index-too-short _ _ _))))
 
 returns-4 : tie.Need-returns-4
 returns-4 c =
     let a = c .before .before .before .before .before .before .before .before .before .before .args in
     let (x, (y, (z, w))) = array-over (a .plan .now) (a .edges .now) (a .speeds .now) (a .cells .now) (inr (inr (c .if4 .taken))) in
-    (x, (y, (z, (w, λ i j u m f. absurd (short-not-held i j u m f)))))
+    (x, (y, (z, (w, index-too-short _ _ _))))
 
 read-found-requires : tie.Need-read-found-requires
 read-found-requires c κs = search needs
@@ -99,7 +99,7 @@ returns-5 c =
     (f .0 ∙ ap (λ (n : ℕ). replicate n 0) (r .read-found .kept .1 .0))
     (f .1 .0 ∙ ap (λ (n : ℕ). replicate n 0) (r .read-found .kept .1 .1 .0))
     (f .1 .1 ∙ ap (λ (n : ℕ). replicate n 0) (r .read-found .kept .1 .1 .1 .0)) in
-    (x, (y, (z, (u, λ i j v m g. absurd (none-not-held i j v m (sym (k .enum-told .given .1) ∙ g))))))
+    (x, (y, (z, (u, index-none _ _ _ _ _ _ _ (k .enum-told .given .1) (r .read-found .ensures .1 .1)))))
 
 returns-6 : tie.Need-returns-6
 returns-6 c =

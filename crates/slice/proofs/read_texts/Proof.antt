@@ -2,7 +2,8 @@
 use native.Mathlib.Omega.{arith}
 use mathlib.Core.Path.{sym}
 use lib.Seq.{length-take-le}
-use Rattle.slice.proofs.Indexing.{texts-indexed}
+use Rattle.tables.proofs.TablesRead.{without-index}
+use Rattle.slice.proofs.Holds.{texts-into}
 use borrow.Author.Needs.{needs}
 use Rattle.slice.proofs.read_texts.Statement.{statement}
 use Rattle.slice.proofs.read_texts.Tie as tie
@@ -16,7 +17,7 @@ part-requires-2 c κs = search needs
 slice-aggregate-read-indexed : tie.Need-slice-aggregate-read-indexed
 slice-aggregate-read-indexed c =
     let z = c .before .before .before .before .before .before .before .before .before in
-    sym (length-take-le (z .args .r) (z .args .plan .now) (omega (arith, z .pre .0)))
+    sym (length-take-le (z .args .r) (z .args .plan .now) (omega (arith, z .pre)))
 
 read-indexed-requires : tie.Need-read-indexed-requires
 read-indexed-requires c κs = search needs
@@ -41,10 +42,11 @@ returns c =
     let t = c .before .before .before .before .before .before .before .before .before .before in
     let q = t .before .before .before .before .before .before .before in
     let p = q .before in
-    let b = p .before .before .before .before .before .before .before in
-    let a = b .args in
-    texts-indexed (a .plan .now) (a .edges .now) (a .speeds .now) (a .cells .now) 65_536 131_072 (a .r) (a .c) (a .p) _ _ (p .part .ensures) (q .part2 .ensures)
-    (a .heads .now) (a .nexts .now) (b .pre .1 .0) (b .pre .1 .1) _ _ _ _ _ _ (t .read-indexed .ensures)
+    let a = p .before .before .before .before .before .before .before .args in
+    let e = t .read-indexed .ensures in
+    let (x, (y, (z, w))) = texts-into (a .plan .now) (a .edges .now) (a .speeds .now) (a .cells .now) 65_536 131_072 (a .r) (a .c) (a .p) _ _ (p .part .ensures) (q .part2 .ensures)
+    _ _ _ _ (without-index e) in
+    (x, (y, (z, (w, e .1 .1 .1 .1))))
 
 pub read-texts-spec : {M : Type 1} → statement M
 read-texts-spec =
