@@ -80,7 +80,7 @@ pub record SameLengths (l l′ : Lent) : Type 0 where
   pub chain-bounds : length (l′ .chain-bounds) ≡ length (l .chain-bounds)
   pub chain-directions : length (l′ .chain-directions) ≡ length (l .chain-directions)
 
-unchanged : (l : Lent) → SameLengths l l
+pub unchanged : (l : Lent) → SameLengths l l
 unchanged l = record { times = refl; chain-bounds = refl; chain-directions = refl }
 
 -- slices that meet their needs have room

@@ -1,7 +1,7 @@
 -- A timetable, case by case, as the code meets them. Assumes nothing.
 use Prim.Native.Nat.{ℕ, _≤_, _<_}
 use native.Mathlib.Omega.{arith}
-use mathlib.Core.Path.{_≡_, refl, ap, sym, _∙_, subst}
+use mathlib.Core.Path.{_≡_, refl, ap, ap₂, sym, _∙_, subst}
 use mathlib.Core.Logic.{inl, inr}
 use mathlib.Core.Bool.{Bool, true, _&&_}
 use mathlib.Core.List.{List, flatMap}
@@ -25,6 +25,7 @@ use Rattle.bounds.specs.Bounding.{bounding-fits, bounding, bounding-answer, bou
 use Rattle.hegtalim.specs.declared.Timed.{Timed}
 use Rattle.hegtalim.specs.Outcomes.{meets-needs, Timetabled, too-short, no-plan, timed, no-times}
 use Rattle.hegtalim.specs.Working.{Worked, done, no-room}
+use Rattle.hegtalim.proofs.Lengths.{SameLengths, unchanged, timetable-lengths}
 use Rattle.hegtalim.proofs.Timing.{told, solving-is}
 
 -- ---- lengths
@@ -146,9 +147,25 @@ module _ (e r : ℕ) (s : List ℕ) (l : Lent) where
   large-done x l′ (no-room (inr h)) he hr = absurd (omega arith)
 
   -- what has no room in arrays may have none in others that are too short
-  pub short-worked : (e′ r′ : ℕ) → e′ < 24_576 → (x : Timed) (l′ : Lent) → Worked e r s l x l′ → Worked e′ r′ s l x l′
+  short-worked : (e′ r′ : ℕ) → e′ < 24_576 → (x : Timed) (l′ : Lent) → Worked e r s l x l′ → Worked e′ r′ s l x l′
   short-worked e′ r′ h x l′ (done y k w) = done y k w
   short-worked e′ r′ h x l′ (no-room room) = no-room (inl h)
+
+  -- the slices lent are as long as they were
+  pub worked-lengths : (x : Timed) (l′ : Lent) → Worked e r s l x l′ → SameLengths l l′
+  worked-lengths x l′ (done y k w) = timetable-lengths s l l′ x w
+  worked-lengths x l′ (no-room room) = unchanged l
+
+  -- the same of an answer and slices that are these
+  pub picked-worked : (x y : Timed) (t t′ n n′ d d′ : List ℕ) → t ≡ t′ → n ≡ n′ → d ≡ d′ → x ≡ y
+      → Worked e r s l y (record { times = t′; chain-bounds = n′; chain-directions = d′ })
+      → Worked 12_288 12_288 s l x (record { times = t; chain-bounds = n; chain-directions = d })
+  picked-worked x y t t′ n n′ d d′ p q u v w =
+      let slices : _≡_ {A = Lent} (record { times = t; chain-bounds = n; chain-directions = d }) (record { times = t′; chain-bounds = n′; chain-directions = d′ }) =
+      ap₂ (λ (a b : List ℕ). record { times = a; chain-bounds = b; chain-directions = d }) p q
+      ∙ ap (λ (b : List ℕ). record { times = t′; chain-bounds = n′; chain-directions = b }) u in
+      subst (λ (k : Lent). Worked 12_288 12_288 s l x k) (sym slices)
+      (subst (λ (z : Timed). Worked 12_288 12_288 s l z (record { times = t′; chain-bounds = n′; chain-directions = d′ })) (sym v) (short-worked 12_288 12_288 (omega arith) y _ w))
 
   -- an answer that is not `TooShort` is the outcome
   pub small-done : (x : Timed) (l′ : Lent) → Worked e r s l x l′ → (y : Timed) → x ≡ y → ¬ (case y ≡ 1) → Timetabled s l y l′

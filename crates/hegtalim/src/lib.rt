@@ -332,29 +332,61 @@ fn most_moves(plan: &[u8]) -> u32
     commas(plan, 64)
 }
 
-// The same for a table of paths of at most 4,096 bytes, in one of the four shorter pairs of arrays: a move takes six bounds, three of them added, and more
-// than two order bounds besides have room there. Where there are at most 14 commas all bounds have room. Many moves are not tried.
-fn time_short(plan: &[u8], times: &mut [u8], numbers: &mut [u8], directions: &mut [u8]) -> Timed
+// In which arrays a plan is tried first, by how many moves it can have: 0 to 3 are shorter ones, 4 those for any plan. A move takes six bounds, three of them
+// added, and more than two order bounds besides have room there. Where there are at most 14 commas all bounds have room. Many moves are not tried.
+fn first_size(plan: &[u8]) -> usize
+    requires { ⌜ 233472 ≤ length (now plan) ⌝ }
+{
+    if plan[135_168] != 0 {
+        return 4;
+    }
+    let n = most_moves(plan);
+    if 700 < n {
+        return 4;
+    }
+    if 300 < n {
+        return 3;
+    }
+    if 80 < n {
+        return 2;
+    }
+    if 14 < n {
+        return 1;
+    }
+    0
+}
+
+// The times of the plan that a slice holds, or a chain, in arrays of this size. What has no room in shorter ones is done again in those for any plan, which
+// every size from 4 on stands for. The function calls itself: otherwise the compiler would put the arrays of all sizes into one frame, and to reach through
+// its pages took a small plan longer than anything else.
+fn time_from(
+    plan: &[u8],
+    size: usize,
+    times: &mut [u8],
+    numbers: &mut [u8],
+    directions: &mut [u8],
+) -> Timed
     requires { ⌜ (233472 ≤ length (now plan)) × (32768 ≤ length (now times)) × (8192 ≤ length (now numbers)) × (4096 ≤ length (now directions)) ⌝ }
-    ensures { λ r. ⌜ Worked 12288 12288 (now (plan .entry))
+    ensures { λ r. ⌜ Timetabled (now (plan .entry))
         (record { times = now (times .entry); chain-bounds = now (numbers .entry); chain-directions = now (directions .entry) })
         r
         (record { times = now (times .exit); chain-bounds = now (numbers .exit); chain-directions = now (directions .exit) }) ⌝ }
 {
-    let n = most_moves(plan);
-    if 700 < n {
-        return Timed::TooShort;
+    if 3 < size {
+        return time_large(plan, times, numbers, directions);
     }
-    if 300 < n {
-        return time_middle(plan, times, numbers, directions);
+    let x = match size {
+        0 => time_least(plan, times, numbers, directions),
+        1 => time_tiny(plan, times, numbers, directions),
+        2 => time_small(plan, times, numbers, directions),
+        _ => time_middle(plan, times, numbers, directions),
+    };
+    match x {
+        Timed::TooShort => time_from(plan, size + 4, times, numbers, directions),
+        Timed::NoPlan => Timed::NoPlan,
+        Timed::Times { passes: k } => Timed::Times { passes: k },
+        Timed::NoTimes { length: n } => Timed::NoTimes { length: n },
     }
-    if 80 < n {
-        return time_small(plan, times, numbers, directions);
-    }
-    if 14 < n {
-        return time_tiny(plan, times, numbers, directions);
-    }
-    time_least(plan, times, numbers, directions)
 }
 
 // The times of the plan that a slice holds, or a chain. Shorter arrays are tried first where the table of paths is short.
@@ -365,16 +397,7 @@ fn time_plan(plan: &[u8], times: &mut [u8], numbers: &mut [u8], directions: &mut
         r
         (record { times = now (times .exit); chain-bounds = now (numbers .exit); chain-directions = now (directions .exit) }) ⌝ }
 {
-    if plan[135_168] != 0 {
-        return time_large(plan, times, numbers, directions);
-    }
-    let x = time_short(plan, times, numbers, directions);
-    match x {
-        Timed::TooShort => time_large(plan, times, numbers, directions),
-        Timed::NoPlan => Timed::NoPlan,
-        Timed::Times { passes: k } => Timed::Times { passes: k },
-        Timed::NoTimes { length: n } => Timed::NoTimes { length: n },
-    }
+    time_from(plan, first_size(plan), times, numbers, directions)
 }
 
 // Times a plan: earliest times and the number of passes, or a chain.
