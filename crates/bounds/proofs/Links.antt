@@ -1,5 +1,5 @@
--- Roads linked by remainders: those of two cells' remainder, gone through from the last to the first, give the first road that joins the cells, so that no
--- other need be looked at. Assumes nothing.
+-- The roads gone through from the last to the first: what was met last is the first road that joins two cells. Where roads are linked by remainders, those of the
+-- cells' remainder give the same, so that no other need be looked at. Assumes nothing.
 use Prim.Native.Nat.{ℕ, zero, suc, _+_, _*_, _-_, _%_, _≤_, _<_}
 use native.Mathlib.Nat.{add-comm}
 use native.Mathlib.Omega.{arith}
@@ -76,6 +76,63 @@ last-passed : (n : ℕ) (s : List ℕ) (a b : ℕ) (d : Road) → false ≡ join
 unfolding joins
 last-passed n s a b d q = found-last n s a b d ∙ ap (λ (t : Bool). found-or (roads-in n s) a b (cond t (road-at s n) d)) (sym q)
 
+-- ---- the way through all roads
+
+-- what is asked of a road: its length and its margin
+abbrev asked : Road → Road
+asked d = road-of (d .length) (d .margin)
+
+-- what stands in where none is found goes by them alone
+asked-or : (o : Option Road) (d e : Road) → asked d ≡ asked e → asked (Option·getD o d) ≡ asked (Option·getD o e)
+asked-or none d e h = h
+asked-or (some r) d e h = refl
+
+module _ (n : ℕ) (s : List ℕ) (a b : ℕ) where
+  -- what holds with so many roads left: the first that joins the cells is among them, or else it is as long as the road that was met last
+  abbrev pub Left : ℕ → ℕ → ℕ → Type 0
+  Left left long margin = (left ≤ n) × (asked (road-found (roads-in n s) a b) ≡ asked (found-or (roads-in left s) a b (road-of long margin)))
+
+  -- all are left
+  pub left-begins : Left n 0 0
+  unfolding road-found
+  left-begins = (omega arith, refl)
+
+  module _ (left long margin : ℕ) (w : Left left long margin) (some-left : 0 < left) where
+    -- the road at hand is the last of those left
+    at-hand : asked (road-found (roads-in n s) a b) ≡ asked (found-or (roads-in (suc (left - 1)) s) a b (road-of long margin))
+    at-hand = let one : left ≡ suc (left - 1) = omega arith in w .1 ∙ ap (λ (m : ℕ). asked (found-or (roads-in m s) a b (road-of long margin))) one
+
+    -- it joins the cells: its length and margin are taken
+    pub left-here : true ≡ joins a b (cells-of (getD s (4 * (left - 1)) 0) (getD s (4 * (left - 1) + 1) 0))
+        → (x y : ℕ) → x ≡ getD s (4 * (left - 1) + 2) 0 → y ≡ getD s (4 * (left - 1) + 3) 0 → Left (left - 1) x y
+    unfolding road-of
+    left-here q x y e f =
+        let same : asked (road-at s (left - 1)) ≡ asked (road-of x y) = ap₂ road-of (sym e) (sym f) in (
+          omega (arith, w .0),
+          at-hand
+              ∙ ap asked (last-here (left - 1) s a b (road-of long margin) q)
+              ∙ asked-or (road-between (roads-in (left - 1) s) a b) (road-at s (left - 1)) (road-of x y) same,
+        )
+
+    -- it does not, and what was taken stays
+    pub left-goes : false ≡ joins a b (cells-of (getD s (4 * (left - 1)) 0) (getD s (4 * (left - 1) + 1) 0))
+        → (x y : ℕ) → x ≡ long → y ≡ margin → Left (left - 1) x y
+    left-goes q x y e f = (
+      omega (arith, w .0),
+      at-hand
+          ∙ ap asked (last-passed (left - 1) s a b (road-of long margin) q)
+          ∙ ap₂ (λ (l m : ℕ). asked (found-or (roads-in (left - 1) s) a b (road-of l m))) (sym e) (sym f),
+    )
+
+  -- none is left
+  pub left-ends : (left long margin : ℕ) → Left left long margin → left ≤ 0
+      → (long ≡ road-found (roads-in n s) a b .length) × (margin ≡ road-found (roads-in n s) a b .margin)
+  unfolding road-of roads-in road-between
+  left-ends left long margin w h =
+      let none-left : left ≡ 0 = omega arith in
+      let e : asked (road-found (roads-in n s) a b) ≡ road-of long margin = w .1 ∙ ap (λ (m : ℕ). asked (found-or (roads-in m s) a b (road-of long margin))) none-left in
+      (ap (λ (d : Road). d .length) (sym e), ap (λ (d : Road). d .margin) (sym e))
+
 -- ---- remainders
 
 -- a road of another remainder joins neither way
@@ -99,85 +156,34 @@ found-skip s a b d (suc n) = by (eqb (bucket-at s n) (bucket a b)) refl (found-s
 
 -- ---- the way through the roads of a remainder
 
--- what is asked of a road: its length and its margin
-abbrev asked : Road → Road
-asked d = road-of (d .length) (d .margin)
-
--- what stands in where none is found goes by them alone
-asked-or : (o : Option Road) (d e : Road) → asked d ≡ asked e → asked (Option·getD o d) ≡ asked (Option·getD o e)
-asked-or none d e h = h
-asked-or (some r) d e h = refl
-
 module _ (n : ℕ) (s : List ℕ) (a b : ℕ) where
-  -- what holds with so many roads left: the last of them is of the cells' remainder, and the first that joins the cells is among them, or else it is as long as
-  -- the road that was met last
+  -- what holds besides where only those of the cells' remainder are met: the last of those left is one
   abbrev pub Way : ℕ → ℕ → ℕ → Type 0
-  Way left long margin =
-      (left ≤ n) × (0 < left → bucket-at s (left - 1) ≡ bucket a b)
-      × (asked (road-found (roads-in n s) a b) ≡ asked (found-or (roads-in left s) a b (road-of long margin)))
+  Way left long margin = Left n s a b left long margin × (0 < left → bucket-at s (left - 1) ≡ bucket a b)
 
   -- so it is at the last of the remainder among the first m
-  way-at : (m long margin : ℕ) → m ≤ n → asked (road-found (roads-in n s) a b) ≡ asked (found-or (roads-in m s) a b (road-of long margin))
-      → Way (last-in s (bucket a b) m) long margin
-  way-at m long margin h e = (
-    omega (arith, last-most s (bucket a b) m),
+  way-at : (m long margin : ℕ) → Left n s a b m long margin → Way (last-in s (bucket a b) m) long margin
+  way-at m long margin w = (
+    (omega (arith, last-most s (bucket a b) m, w .0), w .1 ∙ ap asked (found-skip s a b (road-of long margin) m)),
     last-there s (bucket a b) m,
-    e ∙ ap asked (found-skip s a b (road-of long margin) m),
   )
 
   module _ (heads nexts : List ℕ) (k : Indexed n s heads nexts) where
     -- at the last road of the remainder
     pub way-begins : (r : ℕ) → r ≡ bucket a b → r < 1024 → Way (getD heads r 0) 0 0
-    unfolding road-found
     way-begins r e l =
         let last : getD heads r 0 ≡ last-in s (bucket a b) n = k .heads-are r l ∙ ap (λ (m : ℕ). last-in s m n) e in
-        subst (λ (m : ℕ). Way m 0 0) (sym last) (way-at n 0 0 (omega arith) refl)
+        subst (λ (m : ℕ). Way m 0 0) (sym last) (way-at n 0 0 (left-begins n s a b))
 
     module _ (left long margin : ℕ) (w : Way left long margin) (some-left : 0 < left) where
       -- the next, of the roads before the one at hand
       next-is : getD nexts (left - 1) 0 ≡ last-in s (bucket a b) (left - 1)
-      next-is = k .nexts-are (left - 1) (omega (arith, w .0)) ∙ ap (λ (m : ℕ). last-in s m (left - 1)) (w .1 some-left)
+      next-is = k .nexts-are (left - 1) (omega (arith, w .0 .0)) ∙ ap (λ (m : ℕ). last-in s m (left - 1)) (w .1 some-left)
 
       -- fewer are left from there on
       pub way-less : getD nexts (left - 1) 0 < left
       way-less = omega (arith, next-is, last-most s (bucket a b) (left - 1))
 
-      -- the road at hand is the last of those left
-      at-hand : asked (road-found (roads-in n s) a b) ≡ asked (found-or (roads-in (suc (left - 1)) s) a b (road-of long margin))
-      at-hand = let one : left ≡ suc (left - 1) = omega arith in w .2 ∙ ap (λ (m : ℕ). asked (found-or (roads-in m s) a b (road-of long margin))) one
-
-      -- on to the next
-      way-next : (x y : ℕ) → asked (road-found (roads-in n s) a b) ≡ asked (found-or (roads-in (left - 1) s) a b (road-of x y))
-          → Way (getD nexts (left - 1) 0) x y
-      way-next x y e = subst (λ (m : ℕ). Way m x y) (sym next-is) (way-at (left - 1) x y (omega (arith, w .0)) e)
-
-      -- the road at hand joins the cells: its length and margin are taken
-      pub way-here : true ≡ joins a b (cells-of (getD s (4 * (left - 1)) 0) (getD s (4 * (left - 1) + 1) 0))
-          → (x y : ℕ) → x ≡ getD s (4 * (left - 1) + 2) 0 → y ≡ getD s (4 * (left - 1) + 3) 0 → Way (getD nexts (left - 1) 0) x y
-      unfolding road-of
-      way-here q x y e f =
-          let same : asked (road-at s (left - 1)) ≡ asked (road-of x y) = ap₂ road-of (sym e) (sym f) in
-          way-next x y (
-          at-hand
-          ∙ ap asked (last-here (left - 1) s a b (road-of long margin) q)
-          ∙ asked-or (road-between (roads-in (left - 1) s) a b) (road-at s (left - 1)) (road-of x y) same
-          )
-
-      -- it does not, and what was taken stays
-      pub way-goes : false ≡ joins a b (cells-of (getD s (4 * (left - 1)) 0) (getD s (4 * (left - 1) + 1) 0))
-          → (x y : ℕ) → x ≡ long → y ≡ margin → Way (getD nexts (left - 1) 0) x y
-      way-goes q x y e f =
-          way-next x y (
-          at-hand
-          ∙ ap asked (last-passed (left - 1) s a b (road-of long margin) q)
-          ∙ ap₂ (λ (l m : ℕ). asked (found-or (roads-in (left - 1) s) a b (road-of l m))) (sym e) (sym f)
-          )
-
-  -- none is left
-  pub way-ends : (left long margin : ℕ) → Way left long margin → left ≤ 0
-      → (long ≡ road-found (roads-in n s) a b .length) × (margin ≡ road-found (roads-in n s) a b .margin)
-  unfolding road-of roads-in road-between
-  way-ends left long margin w h =
-      let none-left : left ≡ 0 = omega arith in
-      let e : asked (road-found (roads-in n s) a b) ≡ road-of long margin = w .2 ∙ ap (λ (m : ℕ). asked (found-or (roads-in m s) a b (road-of long margin))) none-left in
-      (ap (λ (d : Road). d .length) (sym e), ap (λ (d : Road). d .margin) (sym e))
+      -- on to the next, once the road at hand is looked at
+      pub way-next : (x y : ℕ) → Left n s a b (left - 1) x y → Way (getD nexts (left - 1) 0) x y
+      way-next x y l = subst (λ (m : ℕ). Way m x y) (sym next-is) (way-at (left - 1) x y l)

@@ -296,9 +296,15 @@ fn write_both(
     }
 }
 
-// The same for the plan that the tables of a slice give.
-fn write_laid(plan: &[u8], ends: &mut [u16], ranges: &mut [u64]) -> Bounding
-    requires { ⌜ 233472 ≤ length (now plan) ⌝ }
+// The same for the plan that the tables of a slice give; the index of its roads is handed on where two arrays with room for it are lent.
+fn write_read(
+    plan: &[u8],
+    heads: &mut [u16],
+    nexts: &mut [u16],
+    ends: &mut [u16],
+    ranges: &mut [u64],
+) -> Bounding
+    requires { ⌜ (233472 ≤ length (now plan)) × (length (now heads) ≡ 1024 → length (now nexts) ≡ 1024) ⌝ }
     ensures answer { λ r. ⌜ r ≡ bounding (held (now (plan .entry))) ⌝ }
     ensures left { λ _. ⌜ ((h : Held) → held (now (plan .entry)) ≡ some h → now (ends .exit) ≡ bounds-left bound-ends (some h) (now (ends .entry))) ⌝ }
     ensures left_ranges { λ _. ⌜ ((h : Held) → held (now (plan .entry)) ≡ some h → now (ranges .exit) ≡ bounds-left bound-range (some h) (now (ranges .entry))) ⌝ }
@@ -306,16 +312,7 @@ fn write_laid(plan: &[u8], ends: &mut [u16], ranges: &mut [u64]) -> Bounding
     let mut edges = [0u32; 4096];
     let mut speeds = [0u32; 128];
     let mut cells = [0u32; 8192];
-    let mut heads: [u16; 1024] = [0; 1024];
-    let mut nexts: [u16; 1024] = [0; 1024];
-    let x = slice::read_laid(
-        plan,
-        &mut edges,
-        &mut speeds,
-        &mut cells,
-        &mut heads,
-        &mut nexts,
-    );
+    let x = slice::read_laid(plan, &mut edges, &mut speeds, &mut cells, heads, nexts);
     match x {
         Holding::TooShort => Bounding::TooShort,
         Holding::NoPlan => Bounding::NoPlan,
@@ -330,8 +327,8 @@ fn write_laid(plan: &[u8], ends: &mut [u16], ranges: &mut [u64]) -> Bounding
             &speeds,
             &cells,
             r,
-            &heads,
-            &nexts,
+            heads,
+            nexts,
             c,
             s,
             n,
@@ -339,6 +336,45 @@ fn write_laid(plan: &[u8], ends: &mut [u16], ranges: &mut [u64]) -> Bounding
             ranges,
         ),
     }
+}
+
+// The same without an index of the roads: few moves on few roads need none, and its memory takes longer to clear than it saves.
+fn write_scanned(plan: &[u8], ends: &mut [u16], ranges: &mut [u64]) -> Bounding
+    requires { ⌜ 233472 ≤ length (now plan) ⌝ }
+    ensures answer { λ r. ⌜ r ≡ bounding (held (now (plan .entry))) ⌝ }
+    ensures left { λ _. ⌜ ((h : Held) → held (now (plan .entry)) ≡ some h → now (ends .exit) ≡ bounds-left bound-ends (some h) (now (ends .entry))) ⌝ }
+    ensures left_ranges { λ _. ⌜ ((h : Held) → held (now (plan .entry)) ≡ some h → now (ranges .exit) ≡ bounds-left bound-range (some h) (now (ranges .entry))) ⌝ }
+{
+    let mut heads = [0u16; 1];
+    let mut nexts = [0u16; 1];
+    write_read(plan, &mut heads, &mut nexts, ends, ranges)
+}
+
+// The same with an index.
+fn write_indexed(plan: &[u8], ends: &mut [u16], ranges: &mut [u64]) -> Bounding
+    requires { ⌜ 233472 ≤ length (now plan) ⌝ }
+    ensures answer { λ r. ⌜ r ≡ bounding (held (now (plan .entry))) ⌝ }
+    ensures left { λ _. ⌜ ((h : Held) → held (now (plan .entry)) ≡ some h → now (ends .exit) ≡ bounds-left bound-ends (some h) (now (ends .entry))) ⌝ }
+    ensures left_ranges { λ _. ⌜ ((h : Held) → held (now (plan .entry)) ≡ some h → now (ranges .exit) ≡ bounds-left bound-range (some h) (now (ranges .entry))) ⌝ }
+{
+    let mut heads = [0u16; 1024];
+    let mut nexts = [0u16; 1024];
+    write_read(plan, &mut heads, &mut nexts, ends, ranges)
+}
+
+// One of the two: without an index where there is room for 128 bounds at most and the table of roads has at most 192 bytes.
+fn write_laid(plan: &[u8], ends: &mut [u16], ranges: &mut [u64]) -> Bounding
+    requires { ⌜ 233472 ≤ length (now plan) ⌝ }
+    ensures answer { λ r. ⌜ r ≡ bounding (held (now (plan .entry))) ⌝ }
+    ensures left { λ _. ⌜ ((h : Held) → held (now (plan .entry)) ≡ some h → now (ends .exit) ≡ bounds-left bound-ends (some h) (now (ends .entry))) ⌝ }
+    ensures left_ranges { λ _. ⌜ ((h : Held) → held (now (plan .entry)) ≡ some h → now (ranges .exit) ≡ bounds-left bound-range (some h) (now (ranges .entry))) ⌝ }
+{
+    if ranges.len() <= 256 {
+        if plan[192] == 0 {
+            return write_scanned(plan, ends, ranges);
+        }
+    }
+    write_indexed(plan, ends, ranges)
 }
 
 // Zeros in every place of an array of ranges.

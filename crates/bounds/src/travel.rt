@@ -7,7 +7,7 @@ ghost use lib.ListN.{length, take, drop};
 ghost use lib.Seq.{sets};
 ghost use Rattle.floor.specs.Plan.{joins};
 ghost use Rattle.tables.specs.Arrays.{roads-in, carts-in, paths-in};
-ghost use Rattle.tables.specs.Index.{bucket};
+ghost use Rattle.tables.specs.Index.{bucket, Indexed};
 ghost use Rattle.network.specs.Events.{routes};
 ghost use Rattle.network.specs.Bounds.{div-up, most-time, travel-bounds};
 ghost use Rattle.network.specs.BoundArrays.{bound-ends, bound-range, hi-number};
@@ -39,9 +39,9 @@ fn bucket_of(a: u32, b: u32) -> usize
 
 // The length and the margin of the road between two cells, 0 where there is none. The roads of their remainder are gone through from the last to the
 // first, and of those that join them the one met last is taken, since the first of the table counts.
-fn find_road(edges: &[u32], roads: usize, heads: &[u16], nexts: &[u16], a: u32, b: u32) -> Track
+fn linked_road(edges: &[u32], roads: usize, heads: &[u16], nexts: &[u16], a: u32, b: u32) -> Track
     requires { ⌜ (roads ≤ 1024) × (4 * roads ≤ length (now edges)) ⌝ }
-    requires { ⌜ RoadsLinked roads (now edges) (now heads) (now nexts) ⌝ }
+    requires { ⌜ (length (now heads) ≡ 1024) × (length (now nexts) ≡ 1024) × Indexed roads (now edges) (now heads) (now nexts) ⌝ }
     ensures { λ r. ⌜ r .length ≡ road-found (roads-in roads (now (edges .entry))) a b .length ⌝ }
     ensures { λ r. ⌜ r .margin ≡ road-found (roads-in roads (now (edges .entry))) a b .margin ⌝ }
 {
@@ -60,6 +60,41 @@ fn find_road(edges: &[u32], roads: usize, heads: &[u16], nexts: &[u16], a: u32, 
         length: long,
         margin: margin,
     }
+}
+
+// The same without links: all roads are gone through, from the last to the first.
+fn scan_road(edges: &[u32], roads: usize, a: u32, b: u32) -> Track
+    requires { ⌜ (roads ≤ 1024) × (4 * roads ≤ length (now edges)) ⌝ }
+    ensures { λ r. ⌜ r .length ≡ road-found (roads-in roads (now (edges .entry))) a b .length ⌝ }
+    ensures { λ r. ⌜ r .margin ≡ road-found (roads-in roads (now (edges .entry))) a b .margin ⌝ }
+{
+    let mut left = roads;
+    let mut long: u32 = 0;
+    let mut margin: u32 = 0;
+    while 0 < left {
+        left -= 1;
+        if is_between(edges[4 * left], edges[4 * left + 1], a, b) {
+            long = edges[4 * left + 2];
+            margin = edges[4 * left + 3];
+        }
+    }
+    Track {
+        length: long,
+        margin: margin,
+    }
+}
+
+// One of the two: by the links, where as many heads are lent as there are remainders.
+fn find_road(edges: &[u32], roads: usize, heads: &[u16], nexts: &[u16], a: u32, b: u32) -> Track
+    requires { ⌜ (roads ≤ 1024) × (4 * roads ≤ length (now edges)) ⌝ }
+    requires { ⌜ RoadsLinked roads (now edges) (now heads) (now nexts) ⌝ }
+    ensures { λ r. ⌜ r .length ≡ road-found (roads-in roads (now (edges .entry))) a b .length ⌝ }
+    ensures { λ r. ⌜ r .margin ≡ road-found (roads-in roads (now (edges .entry))) a b .margin ⌝ }
+{
+    if heads.len() == 1024 {
+        return linked_road(edges, roads, heads, nexts, a, b);
+    }
+    scan_road(edges, roads, a, b)
 }
 
 // The least time of a part of a move, in milliseconds, rounded up; 0 where no speed is given.
