@@ -216,6 +216,24 @@ fn least(a: usize, b: usize) -> usize
     b
 }
 
+// Over how many bounds the first sweep goes: over the plan's own where what a log adds begins with [0, none], as before any report, since such bounds
+// raise nothing that travel does not; else over all.
+fn first_count(ranges: &[u64], own: usize, bounds: usize) -> usize
+    requires { ⌜ (bounds ≤ 12288) × (2 * bounds ≤ length (now ranges)) ⌝ }
+    ensures { λ r. ⌜ r ≤ bounds ⌝ }
+{
+    if bounds <= own {
+        return bounds;
+    }
+    if ranges[2 * own] != 0 {
+        return bounds;
+    }
+    if ranges[2 * own + 1] != 0 {
+        return bounds;
+    }
+    own
+}
+
 // Sweeps over the first `count` of the bounds until one finds each of them allowed, 1,024 at most. After every sixteen a cycle is looked for behind an
 // event that the last may have raised; returns an event on one, or the number of events where none was found.
 fn sweep_until(
@@ -305,8 +323,39 @@ fn sweep_on(
     }
 }
 
-// The fast way: values found by sweeps, and believed where they are a certificate; or a cycle, believed where it is one. Where there are hardly more of the
-// plan's own bounds than events, as for a cart alone, the first sweep should be enough.
+// The first sweeps: one, and where there are more of the plan's own bounds than events, as where carts meet, another over these.
+fn first_sweeps(
+    ends: &[u16],
+    ranges: &[u64],
+    own: usize,
+    bounds: usize,
+    values: &mut [i64],
+    parents: &mut [u16],
+)
+    requires { ⌜ network-fits bounds (length (now values)) (now ends) (now ranges) ≡ true ⌝ }
+    requires { ⌜ (length (now parents) ≡ length (now values)) × InRange (now values) × Coded (bounds-in bounds (now ends) (now ranges)) (now parents) ⌝ }
+    ensures range { λ _. ⌜ InRange (now (values .exit)) ⌝ }
+    ensures coded { λ _. ⌜ Coded (bounds-in bounds (now (ends .entry)) (now (ranges .entry))) (now (parents .exit)) ⌝ }
+{
+    let count = first_count(ranges, own, bounds);
+    sweeping::sweeps(ends, ranges, bounds, count, 1, values, parents);
+    if values.len() < own {
+        let rest = least(own, bounds);
+        sweeping::sweeps(ends, ranges, bounds, rest, 1, values, parents);
+    }
+}
+
+// Whether sweeps go on before anything is checked: where there are more than 256 events, and more of the plan's own bounds than events.
+fn goes_on(events: usize, own: usize) -> bool {
+    if events <= 256 {
+        return false;
+    }
+    events < own
+}
+
+// The fast way: values found by sweeps, and believed where they are a certificate; or a cycle, believed where it is one. What comes of the first sweeps is
+// checked at once where there are at most 256 events, or hardly more of the plan's own bounds than events, as for a cart alone: they should be enough, and
+// a check that fails there costs little. Else sweeps go on.
 fn quick(
     ends: &[u16],
     ranges: &[u64],
@@ -319,8 +368,8 @@ fn quick(
     requires { ⌜ (length (now parents) ≡ length (now values)) × InRange (now values) × Coded (bounds-in bounds (now ends) (now ranges)) (now parents) ⌝ }
     ensures { λ r. ⌜ Finds (bounds-in bounds (now (ends .entry)) (now (ranges .entry))) (length (now (values .entry))) (now (values .exit)) (now (parents .exit)) r ⌝ }
 {
-    sweeping::sweeps(ends, ranges, bounds, bounds, 1, values, parents);
-    if values.len() < own {
+    first_sweeps(ends, ranges, own, bounds, values, parents);
+    if goes_on(values.len(), own) {
         return sweep_on(ends, ranges, own, bounds, values, parents);
     }
     let x = believe(ends, ranges, bounds, values);
