@@ -17,7 +17,7 @@ use Rattle.passes.specs.Values.{InRange}
 use Rattle.passes.proofs.Fitting.{bounds-length, bound-is, place-fits}
 use Rattle.passes.proofs.Networks.{network}
 use Rattle.passes.proofs.Codes.{none-coded}
-use Rattle.passes.proofs.Outcomes.{take-replicate}
+use Rattle.passes.proofs.Outcomes.{take-replicate, codes-long}
 use Rattle.passes.proofs.Checks.{range-set}
 
 -- no event is marked at first
@@ -98,12 +98,21 @@ take-range (suc n) [] r v = record { above = omega arith; under = omega arith }
 take-range (suc n) (x ∷ xs) r zero = r zero
 take-range (suc n) (x ∷ xs) r (suc v) = take-range n xs (λ u. r (suc u)) v
 
-pub first-range : (n k : ℕ) → InRange (take n (set (replicate k (negsuc 1_152_921_504_606_846_975)) 0 (pos 0)))
+first-range : (n k : ℕ) → InRange (take n (set (replicate k (negsuc 1_152_921_504_606_846_975)) 0 (pos 0)))
 first-range n k =
     take-range n (set (replicate k (negsuc 1_152_921_504_606_846_975)) 0 (pos 0))
     (range-set (replicate k (negsuc 1_152_921_504_606_846_975)) 0 (pos 0)
     (replicate-range k (negsuc 1_152_921_504_606_846_975) (record { above = omega arith; under = omega arith })) (record { above = omega arith; under = omega arith }))
 
 -- and no parents
-pub first-coded : (bs : List Bound) (n k : ℕ) → n ≤ k → Coded bs (take n (replicate k 0))
+first-coded : (bs : List Bound) (n k : ℕ) → n ≤ k → Coded bs (take n (replicate k 0))
 first-coded bs n k h = subst (Coded bs) (sym (take-replicate n k 0 h)) (none-coded bs n)
+
+-- so the working memory for k events can be swept, for as many as there are
+pub first-sweepable : (m n k : ℕ) (ends ranges : List ℕ) → network-fits m n ends ranges ≡ true → n ≤ k
+    → Sweepable m ends ranges (take n (set (replicate k (negsuc 1_152_921_504_606_846_975)) 0 (pos 0))) (take n (replicate k 0))
+first-sweepable m n k ends ranges fit h =
+    let long = sym (values-long n k h) in (
+      ap (λ (i : ℕ). network-fits m i ends ranges) long ∙ fit,
+      (sym (codes-long n k h) ∙ sym long, first-range n k, first-coded (bounds-in m ends ranges) n k h),
+    )

@@ -426,7 +426,41 @@ fn search(
     }
 }
 
-// The same, with working memory of its own for the fewest events, which takes the least time to fill.
+// The same, with working memory of its own for at most 64 events, which takes the least time to fill.
+fn find_least(
+    ends: &[u16],
+    ranges: &[u64],
+    own: usize,
+    bounds: usize,
+    events: usize,
+    times: &mut [u8],
+    numbers: &mut [u8],
+    directions: &mut [u8],
+) -> Solved
+    requires { ⌜ (network-fits bounds events (now ends) (now ranges) ≡ true) × (events ≤ 64) ⌝ }
+    requires { ⌜ (32768 ≤ length (now times)) × (8192 ≤ length (now numbers)) × (4096 ≤ length (now directions)) ⌝ }
+    ensures { λ r. ⌜ Solves own events (bounds-in bounds (now (ends .entry)) (now (ranges .entry)))
+        (record { times = now (times .entry); chain-bounds = now (numbers .entry); chain-directions = now (directions .entry) })
+        r
+        (record { times = now (times .exit); chain-bounds = now (numbers .exit); chain-directions = now (directions .exit) }) ⌝ }
+{
+    let mut values = [-1_152_921_504_606_846_976i64; 64];
+    let mut parents = [0u16; 64];
+    values[0] = 0;
+    search(
+        ends,
+        ranges,
+        own,
+        bounds,
+        &mut values[..events],
+        &mut parents[..events],
+        times,
+        numbers,
+        directions,
+    )
+}
+
+// The same for at most 256 events.
 fn find_fewest(
     ends: &[u16],
     ranges: &[u64],
@@ -454,6 +488,48 @@ fn find_fewest(
         bounds,
         &mut values[..events],
         &mut parents[..events],
+        times,
+        numbers,
+        directions,
+    )
+}
+
+// One of the two, by the number of events.
+fn find_short(
+    ends: &[u16],
+    ranges: &[u64],
+    own: usize,
+    bounds: usize,
+    events: usize,
+    times: &mut [u8],
+    numbers: &mut [u8],
+    directions: &mut [u8],
+) -> Solved
+    requires { ⌜ (network-fits bounds events (now ends) (now ranges) ≡ true) × (events ≤ 256) ⌝ }
+    requires { ⌜ (32768 ≤ length (now times)) × (8192 ≤ length (now numbers)) × (4096 ≤ length (now directions)) ⌝ }
+    ensures { λ r. ⌜ Solves own events (bounds-in bounds (now (ends .entry)) (now (ranges .entry)))
+        (record { times = now (times .entry); chain-bounds = now (numbers .entry); chain-directions = now (directions .entry) })
+        r
+        (record { times = now (times .exit); chain-bounds = now (numbers .exit); chain-directions = now (directions .exit) }) ⌝ }
+{
+    if events <= 64 {
+        return find_least(
+            ends,
+            ranges,
+            own,
+            bounds,
+            events,
+            times,
+            numbers,
+            directions,
+        );
+    }
+    find_fewest(
+        ends,
+        ranges,
+        own,
+        bounds,
+        events,
         times,
         numbers,
         directions,
@@ -547,7 +623,7 @@ fn find(
         (record { times = now (times .exit); chain-bounds = now (numbers .exit); chain-directions = now (directions .exit) }) ⌝ }
 {
     if events <= 256 {
-        return find_fewest(
+        return find_short(
             ends,
             ranges,
             own,

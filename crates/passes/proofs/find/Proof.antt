@@ -3,8 +3,8 @@ use borrow.Author.Needs.{needs}
 use Rattle.passes.proofs.find.Statement.{statement}
 use Rattle.passes.proofs.find.Tie as tie
 
-find-fewest-requires : tie.Need-find-fewest-requires
-find-fewest-requires c κs = search needs
+find-short-requires : tie.Need-find-short-requires
+find-short-requires c κs = search needs
 
 same-length : tie.Need-same-length
 same-length c = search needs
@@ -52,7 +52,7 @@ pub find-spec : {M : Type 1} → statement M
 find-spec =
     tie.close
     (tie.spec
-    find-fewest-requires
+    find-short-requires
     same-length
     same-length-2
     same-length-3
