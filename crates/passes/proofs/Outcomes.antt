@@ -21,7 +21,7 @@ use Rattle.schedule.proofs.Lent.{Room, room, room-passes}
 use Rattle.passes.specs.declared.Run.{Run}
 use Rattle.passes.specs.declared.Found.{Found}
 use Rattle.passes.specs.declared.Solved.{Solved}
-use Rattle.passes.specs.Solving.{times-of, Solves, timed, cycle}
+use Rattle.passes.specs.Solving.{times-of, Solves, timed, cycle, Searched, search-solves, search-nothing}
 use Rattle.passes.specs.Marks.{low, sum-at, sums-in, parents-in, Coded, Ran, settles, raises-on, Finds, finds-times, finds-cycle, CycleFound, ChainFound}
 use Rattle.passes.proofs.Marks.{low-none}
 
@@ -127,6 +127,40 @@ first-memory n k old codes e f g h =
 -- what is found of so many events
 pub of-events : {own n : ℕ} {bs : List Bound} {l l′ : Lent} {r : Solved} (m : ℕ) → m ≡ n → Solves own n bs l r l′ → Solves own m bs l r l′
 of-events {own} {n} {bs} {l} {l′} {r} m e s = subst (λ (i : ℕ). Solves own i bs l r l′) (sym e) s
+
+-- ---- the fast way, and then the passes
+
+-- what it finds stays
+pub searched : {own n : ℕ} {bs : List Bound} {l l′ : Lent} {r : Solved} (m : ℕ) → m ≡ n → Searched own n bs l r l′ → (r ≡ Solved.Unfit → ⊥)
+    → Solves own m bs l r l′
+searched m e (search-solves a l′ s) h = of-events m e s
+searched m e search-nothing h = absurd (h refl)
+
+-- where it finds nothing, nothing is written
+some-answer : Solved → Type 0
+some-answer Solved.Unfit = ⊥
+some-answer (Solved.Times k) = Unit
+some-answer (Solved.Cycle k z) = Unit
+
+answered : {own n : ℕ} {bs : List Bound} {l l′ : Lent} {r : Solved} → Solves own n bs l r l′ → some-answer r
+unfolding some-answer
+answered (timed t e) = tt
+answered (cycle e is ls p c) = tt
+
+none-written : {own n : ℕ} {bs : List Bound} {l l′ : Lent} → Searched own n bs l Solved.Unfit l′ → l′ ≡ l
+unfolding some-answer
+none-written (search-solves a l′ s) = absurd (answered s)
+none-written search-nothing = refl
+
+-- and what the passes come to, they come to from what was lent
+pub passed : {own n k : ℕ} {bs : List Bound} {l l′ l″ : Lent} {r r′ : Solved} (m : ℕ) → m ≡ k → Searched own n bs l r l′ → r ≡ Solved.Unfit
+    → Solves own k bs l′ r′ l″ → Solves own m bs l r′ l″
+passed {own} {n} {k} {bs} {l} {l′} {l″} {r} {r′} m q x e s =
+    of-events m q (subst (λ (i : Lent). Solves own k bs i r′ l″) (none-written (subst (λ (a : Solved). Searched own n bs l a l′) e x)) s)
+
+-- for which there is as much room as there was
+pub room-left : {m i j : ℕ} → m ≤ j → i ≡ j → m ≤ i
+room-left h e = omega (arith, h, e)
 
 -- ---- the slices lent
 

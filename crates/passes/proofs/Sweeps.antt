@@ -3,9 +3,9 @@ use Prim.Native.Nat.{ℕ, zero, suc, _*_, _≤_, _<_}
 use native.Mathlib.Omega.{arith}
 use mathlib.Core.Path.{_≡_, refl, ap, sym, _∙_, subst}
 use mathlib.Core.Bool.{true}
-use mathlib.Core.List.{List, [], _∷_}
+use mathlib.Core.List.{List, [], _∷_, _++_}
 use lib.IntN.{ℤ, pos, negsuc}
-use lib.ListN.{length, getD, take, set, replicate, length-set, length-replicate}
+use lib.ListN.{length, getD, take, drop, set, replicate, length-append, length-set, length-replicate}
 use lib.Seq.{length-take-le}
 use Rattle.laws.proofs.Signed.{Within}
 use Rattle.network.specs.Bounds.{Bound}
@@ -116,3 +116,18 @@ first-sweepable m n k ends ranges fit h =
       ap (λ (i : ℕ). network-fits m i ends ranges) long ∙ fit,
       (sym (codes-long n k h) ∙ sym long, first-range n k, first-coded (bounds-in m ends ranges) n k h),
     )
+
+-- ---- afterwards
+
+-- the working memory for k events, in the front of which u is left of n
+abbrev pub memory-left : ℕ → ℕ → List ℤ → List ℤ
+memory-left n k u = u ++ drop n (set (replicate k (negsuc 1_152_921_504_606_846_975)) 0 (pos 0))
+
+-- is as long as it was
+module _ (n k : ℕ) (u : List ℤ) (h : n ≤ k) (e : length u ≡ length (take n (set (replicate k (negsuc 1_152_921_504_606_846_975)) 0 (pos 0)))) where
+  pub left-long : n ≤ length (memory-left n k u)
+  left-long =
+      omega (arith, e, values-long n k h, length-append u (drop n (set (replicate k (negsuc 1_152_921_504_606_846_975)) 0 (pos 0))))
+
+  pub left-front : n ≡ length (take n (memory-left n k u))
+  left-front = sym (length-take-le n (memory-left n k u) left-long)

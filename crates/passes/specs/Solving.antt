@@ -73,7 +73,12 @@ pub data Solves (own n : ℕ) (bs : List Bound) (l : Lent) : Solved → Lent →
   cycle : times-of bs n ≡ none → (is : List Pick) (ls : List Leg) → picked-legs bs is ≡ some ls → T (closed-below-0 (some ls))
       → Solves own n bs l (Solved.Cycle (length is) (cost ls)) (chain-written (map (picked own bs) is) l)
 
--- the same, of arrays and slices: where they are no network, or short, nothing is written
+-- the same, or nothing is found, and nothing written
+pub data Searched (own n : ℕ) (bs : List Bound) (l : Lent) : Solved → Lent → Type 0 where
+  search-solves : (a : Solved) (l′ : Lent) → Solves own n bs l a l′ → Searched own n bs l a l′
+  search-nothing : Searched own n bs l Solved.Unfit l
+
+-- the answer, of arrays and slices: where they are no network, or short, nothing is written
 pub data Solving (own m n : ℕ) (ends ranges : List ℕ) (l : Lent) : Solved → Lent → Type 0 where
   unfit : (network-fits m n ends ranges && long-enough l) ≡ false → Solving own m n ends ranges l Solved.Unfit l
   solved : (network-fits m n ends ranges && long-enough l) ≡ true → (a : Solved) (l′ : Lent) → Solves own n (bounds-in m ends ranges) l a l′

@@ -17,7 +17,7 @@ ghost use mathlib.Core.List.{List, map};
 ghost use Rattle.words.specs.Words.{words, written};
 ghost use Rattle.walks.specs.Passes.{at-start};
 ghost use Rattle.schedule.specs.Timetable.{time};
-ghost use Rattle.passes.specs.Solving.{network-fits, Solves, Solving};
+ghost use Rattle.passes.specs.Solving.{network-fits, Solves, Searched, Solving};
 ghost use Rattle.passes.specs.Marks.{sum-at, sums-in, Coded, CycleFound, Finds};
 ghost use Rattle.passes.specs.Values.{InRange};
 
@@ -380,7 +380,7 @@ fn quick(
     }
 }
 
-// The fast way, and where nothing comes of it the passes.
+// The fast way, and what comes of it is written: where nothing does, nothing is, and the answer is Unfit.
 fn search(
     ends: &[u16],
     ranges: &[u64],
@@ -395,7 +395,7 @@ fn search(
     requires { ⌜ network-fits bounds (length (now values)) (now ends) (now ranges) ≡ true ⌝ }
     requires { ⌜ (length (now parents) ≡ length (now values)) × InRange (now values) × Coded (bounds-in bounds (now ends) (now ranges)) (now parents) ⌝ }
     requires { ⌜ (32768 ≤ length (now times)) × (8192 ≤ length (now numbers)) × (4096 ≤ length (now directions)) ⌝ }
-    ensures { λ r. ⌜ Solves own (length (now (values .entry))) (bounds-in bounds (now (ends .entry)) (now (ranges .entry)))
+    ensures { λ r. ⌜ Searched own (length (now (values .entry))) (bounds-in bounds (now (ends .entry)) (now (ranges .entry)))
         (record { times = now (times .entry); chain-bounds = now (numbers .entry); chain-directions = now (directions .entry) })
         r
         (record { times = now (times .exit); chain-bounds = now (numbers .exit); chain-directions = now (directions .exit) }) ⌝ }
@@ -413,20 +413,12 @@ fn search(
                 cost: c.cost,
             }
         }
-        Found::Nothing => by_passes(
-            ends,
-            ranges,
-            own,
-            bounds,
-            values,
-            times,
-            numbers,
-            directions,
-        ),
+        Found::Nothing => Solved::Unfit,
     }
 }
 
-// The same, with working memory of its own for at most 64 events, which takes the least time to fill.
+// The fast way, and where nothing comes of it the passes, with working memory for at most 64 events, which takes the least time to fill. The passes' own
+// memory is not part of that: hardly a plan comes to them.
 fn find_least(
     ends: &[u16],
     ranges: &[u64],
@@ -447,7 +439,7 @@ fn find_least(
     let mut values = [-1_152_921_504_606_846_976i64; 64];
     let mut parents = [0u16; 64];
     values[0] = 0;
-    search(
+    let x = search(
         ends,
         ranges,
         own,
@@ -457,7 +449,12 @@ fn find_least(
         times,
         numbers,
         directions,
-    )
+    );
+    if let Solved::Unfit = x {
+        let sums = &mut values[..events];
+        return by_passes(ends, ranges, own, bounds, sums, times, numbers, directions);
+    }
+    x
 }
 
 // The same for at most 256 events.
@@ -481,7 +478,7 @@ fn find_fewest(
     let mut values = [-1_152_921_504_606_846_976i64; 256];
     let mut parents = [0u16; 256];
     values[0] = 0;
-    search(
+    let x = search(
         ends,
         ranges,
         own,
@@ -491,7 +488,12 @@ fn find_fewest(
         times,
         numbers,
         directions,
-    )
+    );
+    if let Solved::Unfit = x {
+        let sums = &mut values[..events];
+        return by_passes(ends, ranges, own, bounds, sums, times, numbers, directions);
+    }
+    x
 }
 
 // One of the two, by the number of events.
@@ -557,7 +559,7 @@ fn find_few(
     let mut values = [-1_152_921_504_606_846_976i64; 1024];
     let mut parents = [0u16; 1024];
     values[0] = 0;
-    search(
+    let x = search(
         ends,
         ranges,
         own,
@@ -567,7 +569,12 @@ fn find_few(
         times,
         numbers,
         directions,
-    )
+    );
+    if let Solved::Unfit = x {
+        let sums = &mut values[..events];
+        return by_passes(ends, ranges, own, bounds, sums, times, numbers, directions);
+    }
+    x
 }
 
 // The same for as many events as may be.
@@ -591,7 +598,7 @@ fn find_many(
     let mut values = [-1_152_921_504_606_846_976i64; 4096];
     let mut parents = [0u16; 4096];
     values[0] = 0;
-    search(
+    let x = search(
         ends,
         ranges,
         own,
@@ -601,7 +608,12 @@ fn find_many(
         times,
         numbers,
         directions,
-    )
+    );
+    if let Solved::Unfit = x {
+        let sums = &mut values[..events];
+        return by_passes(ends, ranges, own, bounds, sums, times, numbers, directions);
+    }
+    x
 }
 
 // One of them, by the number of events.

@@ -1,9 +1,18 @@
--- `passes::find_least` meets its contract: the working memory is as the sweeps ask at first, and as long as there are events.
+-- `passes::find_least` meets its contract: the working memory is as the sweeps ask at first, and as long as there are events; what they find
+-- stays, or it is what the passes come to.
 -- Assumes nothing.
 use Prim.Native.Nat.{ℕ, _≤_}
+use mathlib.Core.Path.{_≡_, ap, sym, _∙_, subst}
+use mathlib.Core.List.{[], _∷_}
+use lib.ListN.{length, take}
+use types.Run.{OneOf, miss}
+use denote.Enum.Declared.{tagOf}
 use borrow.Author.Needs.{needs}
-use Rattle.passes.proofs.Outcomes.{codes-long, of-events}
-use Rattle.passes.proofs.Sweeps.{values-long, first-sweepable}
+use Rattle.passes.specs.declared.Solved.{Solved}
+use Rattle.passes.specs.Solving.{network-fits}
+use Rattle.passes.proofs.Solved.{the-type}
+use Rattle.passes.proofs.Outcomes.{codes-long, searched, passed, room-left}
+use Rattle.passes.proofs.Sweeps.{values-long, first-sweepable, memory-left, left-long, left-front}
 use Rattle.passes.proofs.find_least.Statement.{statement}
 use Rattle.passes.proofs.find_least.Tie as tie
 
@@ -14,6 +23,14 @@ events b = b .args .events
 -- there are few
 few : (b : tie.Start) → events b ≤ 64
 few b = b .pre .0 .1
+
+-- as many values as events are left by the search
+front : (c : tie.After-search)
+    → let n = events (c .before .before .before .before .before .before .before .before .before .before .before) in
+    n ≡ length (take n (memory-left n 64 (c .search .last .1 .1 .1 .1 .0)))
+front c =
+    let b = c .before .before .before .before .before .before .before .before .before .before .before in
+    left-front (events b) 64 (c .search .last .1 .1 .1 .1 .0) (few b) (c .search .kept .1 .1 .1 .1 .0)
 
 array-set-of-values : tie.Need-array-set-of-values
 array-set-of-values c = search needs
@@ -37,6 +54,28 @@ search-requires c κs =
     let w = first-sweepable (a .bounds) (events b) 64 (a .ends .now) (a .ranges .now) (b .pre .0 .0) (few b) in
     (w .0, (w .1, b .pre .1))
 
+enum-told : tie.Need-enum-told
+enum-told c = search needs
+
+array-borrow-prefix-values-2 : tie.Need-array-borrow-prefix-values-2
+array-borrow-prefix-values-2 c =
+    let s = c .before .before .before .before .before .before .before .before .before .before in
+    let b = s .before .before .before .before .before .before .before .before .before .before .before in
+    left-long (events b) 64 (s .search .last .1 .1 .1 .1 .0) (few b) (s .search .kept .1 .1 .1 .1 .0)
+
+slice-aggregate-sums : tie.Need-slice-aggregate-sums
+slice-aggregate-sums c = front (c .before .before .before .before .before .before .before .before .before .before .before)
+
+by-passes-requires : tie.Need-by-passes-requires
+by-passes-requires c κs =
+    let s = c .before .before .before .before .before .before .before .before .before .before .before .before .before .before in
+    let b = s .before .before .before .before .before .before .before .before .before .before .before in
+    let a = b .args in
+    let r = s .search .kept .1 .1 .1 .1 .1 .1 in (
+      ap (λ (i : ℕ). network-fits (a .bounds) i (a .ends .now) (a .ranges .now)) (sym (front s)) ∙ b .pre .0 .0,
+      (room-left (b .pre .1 .0) (r .0), room-left (b .pre .1 .1) (r .1 .0), room-left (b .pre .1 .2) (r .1 .1 .0)),
+    )
+
 same-length : tie.Need-same-length
 same-length c = search needs
 
@@ -48,8 +87,25 @@ same-length-3 c = search needs
 
 returns : tie.Need-returns
 returns c =
-    let b = c .before .before .before .before .before .before .before .before .before .before .before .before .before .before .before .before .before .before .before in
-    of-events (events b) (values-long (events b) 64 (few b)) (c .before .before .before .before .before .before .before .before .search .ensures)
+    let p = c .before .before .before .before .before .before .before in
+    let s = p .before .before .before .before .before .before .before .before .before .before .before .before .before .before .before in
+    passed (events (s .before .before .before .before .before .before .before .before .before .before .before)) (front s) (s .search .ensures) (p .before .before .before .before .before .enum-told .given .1) (p .by-passes .ensures)
+
+same-length-4 : tie.Need-same-length-4
+same-length-4 c = search needs
+
+same-length-5 : tie.Need-same-length-5
+same-length-5 c = search needs
+
+same-length-6 : tie.Need-same-length-6
+same-length-6 c = search needs
+
+returns-2 : tie.Need-returns-2
+returns-2 c =
+    let s = c .before .before .before .before .before .before .before .before .before in
+    let b = s .before .before .before .before .before .before .before .before .before .before .before in
+    searched (events b) (values-long (events b) 64 (few b)) (s .search .ensures)
+    (λ e. miss (1 ∷ 2 ∷ []) 0 tt (subst (λ (x : Solved). OneOf (1 ∷ 2 ∷ []) (tagOf the-type x)) e (c .match .keys2)))
 
 pub find-least-spec : {M : Type 1} → statement M
 find-least-spec =
@@ -61,7 +117,15 @@ find-least-spec =
     array-borrow-prefix-parents
     slice-aggregate-search-2
     search-requires
+    enum-told
+    array-borrow-prefix-values-2
+    slice-aggregate-sums
+    by-passes-requires
     same-length
     same-length-2
     same-length-3
-    returns)
+    returns
+    same-length-4
+    same-length-5
+    same-length-6
+    returns-2)

@@ -1,8 +1,8 @@
--- `passes::search` meets its contract: what the fast way finds is what the passes come to, and where it finds nothing they are made.
+-- `passes::search` meets its contract: what the fast way finds is what the passes come to, and where it finds nothing, nothing is written.
 -- Assumes nothing.
 use Prim.Native.Nat.{ℕ}
 use native.Mathlib.Omega.{arith}
-use mathlib.Core.Path.{_≡_, ap, sym, _∙_, subst}
+use mathlib.Core.Path.{_≡_, ap, _∙_, subst}
 use mathlib.Core.List.{flatMap}
 use mathlib.Core.Option.{none}
 use lib.ListN.{length}
@@ -14,10 +14,10 @@ use Rattle.network.specs.BoundArrays.{bounds-in}
 use Rattle.walks.specs.Passes.{settled}
 use Rattle.schedule.specs.Timetable.{ways}
 use Rattle.passes.specs.declared.Found.{Found}
-use Rattle.passes.specs.Solving.{bounds-fit, network-fits}
+use Rattle.passes.specs.Solving.{bounds-fit, search-solves, search-nothing}
 use Rattle.passes.specs.Marks.{Coded, CycleFound}
 use Rattle.passes.proofs.Networks.{Network, network}
-use Rattle.passes.proofs.Outcomes.{found-times, found-cycle, timed-left, chain-left, of-events}
+use Rattle.passes.proofs.Outcomes.{found-times, found-cycle, timed-left, chain-left}
 use Rattle.passes.proofs.search.Statement.{statement}
 use Rattle.passes.proofs.search.Tie as tie
 
@@ -71,12 +71,6 @@ write-chain-requires c κs =
 enum-told : tie.Need-enum-told
 enum-told c = search needs
 
-by-passes-requires : tie.Need-by-passes-requires
-by-passes-requires c κs =
-    let b = c .before .before .before .before .before .before .before .before .before .before .before .before .before .before .before .before .before .before in
-    let q = c .before .before .before .before .before .before .before .before .before .quick in
-    (ap (λ (i : ℕ). network-fits (b .args .bounds) i (b .args .ends .now) (b .args .ranges .now)) (q .kept .1 .1 .1 .1 .0) ∙ b .pre .0, b .pre .1 .1)
-
 same-length : tie.Need-same-length
 same-length c = search needs
 
@@ -92,10 +86,10 @@ returns c =
     let q = c .before .before .before .before .before .before .before .before .before .before .before .quick in
     let x = c .before .before .before .before .before .before .x .given in
     let bs = bounds-in (a .bounds) (a .ends .now) (a .ranges .now) in
-    timed-left (a .own) (length (a .values .now)) bs (record { times = a .times .now; chain-bounds = a .numbers .now; chain-directions = a .directions .now })
+    search-solves _ _ (timed-left (a .own) (length (a .values .now)) bs (record { times = a .times .now; chain-bounds = a .numbers .now; chain-directions = a .directions .now })
     (x .0 .0) (q .last .1 .1 .1 .1 .0) (c .before .before .write-times .last .1 .0)
     (found-times bs (length (a .values .now)) (q .last .1 .1 .1 .1 .0) (q .last .1 .1 .1 .1 .1 .0) (q .result) (q .ensures) (x .0 .0) (x .1))
-    (c .before .before .write-times .ensures)
+    (c .before .before .write-times .ensures))
 
 same-length-4 : tie.Need-same-length-4
 same-length-4 c = search needs
@@ -119,9 +113,9 @@ returns-2 c =
     let bs = bounds-in (a .bounds) (a .ends .now) (a .ranges .now) in
     let small : Within 4_096_000_000_000_000 (w .result .cost) = w .ensures .1 in
     rw (toZ-ofZ w64 (w .result .cost) (record { sfits = omega (arith, mag-within (w .result .cost) small) }))
-    (chain-left (a .own) (length (a .values .now)) bs (record { times = a .times .now; chain-bounds = a .numbers .now; chain-directions = a .directions .now })
+    (search-solves _ _ (chain-left (a .own) (length (a .values .now)) bs (record { times = a .times .now; chain-bounds = a .numbers .now; chain-directions = a .directions .now })
     (w .result .length) (w .result .cost) (w .last .1 .1 .1 .1 .1 .1 .0) (w .last .1 .1 .1 .1 .1 .1 .1 .0)
-    (subst (λ (i : ℕ). settled (flatMap ways bs) i ≡ none) long (f .unsettled)) (w .ensures .0))
+    (subst (λ (i : ℕ). settled (flatMap ways bs) i ≡ none) long (f .unsettled)) (w .ensures .0)))
 
 same-length-8 : tie.Need-same-length-8
 same-length-8 c = search needs
@@ -129,20 +123,8 @@ same-length-8 c = search needs
 same-length-9 : tie.Need-same-length-9
 same-length-9 c = search needs
 
-same-length-10 : tie.Need-same-length-10
-same-length-10 c = search needs
-
-same-length-11 : tie.Need-same-length-11
-same-length-11 c = search needs
-
-same-length-12 : tie.Need-same-length-12
-same-length-12 c = search needs
-
 returns-3 : tie.Need-returns-3
-returns-3 c =
-    let b = c .before .before .before .before .before .before .before .before .before .before .before .before .before .before .before .before .before .before .before .before .before .before .before .before .before .before in
-    let q = c .before .before .before .before .before .before .before .before .before .before .before .before .before .before .before .before .before .quick in
-    of-events (length (b .args .values .now)) (sym (q .kept .1 .1 .1 .1 .0)) (c .before .before .before .before .before .before .before .by-passes .ensures)
+returns-3 c = search-nothing
 
 pub search-spec : {M : Type 1} → statement M
 search-spec =
@@ -154,7 +136,6 @@ search-spec =
     enum-known-x-2
     write-chain-requires
     enum-told
-    by-passes-requires
     same-length
     same-length-2
     same-length-3
@@ -166,7 +147,4 @@ search-spec =
     returns-2
     same-length-8
     same-length-9
-    same-length-10
-    same-length-11
-    same-length-12
     returns-3)
