@@ -357,8 +357,8 @@ fn first_size(plan: &[u8]) -> usize
 }
 
 // The times of the plan that a slice holds, or a chain, in arrays of this size. What has no room in shorter ones is done again in those for any plan, which
-// every size from 4 on stands for. The function calls itself: otherwise the compiler would put the arrays of all sizes into one frame, and to reach through
-// its pages took a small plan longer than anything else.
+// every size from 4 on stands for. The function calls itself: otherwise the compiler would put the arrays of all sizes into one frame, and a small plan too
+// would touch each of its pages.
 fn time_from(
     plan: &[u8],
     size: usize,
