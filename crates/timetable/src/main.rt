@@ -1,4 +1,5 @@
 // Reads roads.csv, carts.csv and paths.csv from the folder that it is run in, and prints the times of their plan, or the refusal.
+#![tactic(auto)]
 ghost use Rattle.io.specs.Counts.{IsPrefixLen};
 
 use libc::STDOUT_FILENO;
