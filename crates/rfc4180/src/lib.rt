@@ -1,5 +1,6 @@
 // Records, fields and numbers of the tables, read from left to right. The definitions are in specs/.
 #![tactic(auto)]
+
 ghost use Rattle.std.specs.Prelude.{◌≡◌, map, ◌+◌, ◌≤◌, length, take};
 ghost use Rattle.words.specs.Words.{written};
 ghost use Rattle.rfc4180.specs.Text.{same};
