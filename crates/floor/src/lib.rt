@@ -1,5 +1,6 @@
 // Roads, carts and paths, and why tables are turned down. The definitions are in specs/.
 #![tactic(auto)]
+
 ghost use Rattle.std.specs.Prelude.{◌≡◌};
 ghost use Rattle.floor.specs.Refusal.{reason_number, table_number};
 

@@ -1,5 +1,6 @@
 // Bounds in arrays. The events and bounds of a plan are defined in specs/.
 #![tactic(auto)]
+
 ghost use Rattle.std.specs.Prelude.{◌≡◌, [], ◌∷◌, ◌*◌, min};
 ghost use Rattle.std.proofs.lemmas.List.Edits.{sets};
 

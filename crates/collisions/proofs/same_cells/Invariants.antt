@@ -1,0 +1,34 @@
+-- `collisions::same_cells` meets its contract. The loops' invariants: nothing was found at the steps passed, nor at this step among the carts
+-- passed, nor for this cart against those passed. Assumes nothing.
+use Prim.Native.Nat.{◌+◌, ◌*◌, ◌-◌, ◌≤◌, ◌<◌}
+use native.Mathlib.Numerals.{unary_clauses}
+use native.Mathlib.Omega.{arith}
+use mathlib.Core.Path.{◌≡◌, refl, ap, sym, ◌∙◌}
+use borrow.Author.Tests.{eq-eqb, ne_eqb}
+use lib.Dec.{eqb}
+use lib.ListN.{take, drop}
+use Rattle.floor.specs.Paths.{collides, first_collision, earliest, same_cell, steps, first_same_cell}
+use Rattle.collisions.specs.Meetings.{paths_in, found}
+use Rattle.collisions.proofs.Searches.{path_fits, cells_at, cells_placed, other_passed, record_passed, record_found, records_past, step_passed, step_found, steps_over, steps_most, steps_all}
+use Rattle.collisions.proofs.same_cells.Given as goal
+
+abbrev pub invariant-loop-k : goal.invariant-loop-k
+invariant-loop-k l = (l.found ≡ 0)
+    × (collides eqb l.c (take l.i (cells_at l.carts l.w l.cells l.s)) ≡ collides eqb l.c (drop l.k (take l.i (cells_at l.carts l.w l.cells l.s))))
+
+abbrev pub decreases-loop-k : goal.decreases-loop-k
+decreases-loop-k l = l.i - l.k
+
+abbrev pub invariant-loop-i : goal.invariant-loop-i
+invariant-loop-i l = (l.found ≡ 0)
+    × (same_cell (paths_in l.carts l.w l.cells) l.s ≡ first_collision eqb (take l.i (cells_at l.carts l.w l.cells l.s)) (drop l.i (cells_at l.carts l.w l.cells l.s)))
+
+abbrev pub decreases-loop-i : goal.decreases-loop-i
+decreases-loop-i l = l.carts - l.i
+
+abbrev pub invariant-steps : goal.invariant-steps
+invariant-steps l = (l.found ≡ 0)
+    × (first_same_cell (paths_in l.carts l.w l.cells) ≡ earliest (same_cell (paths_in l.carts l.w l.cells)) l.s (steps (paths_in l.carts l.w l.cells) - l.s))
+
+abbrev pub decreases-steps : goal.decreases-steps
+decreases-steps l = l.w - l.s
