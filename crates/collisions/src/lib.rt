@@ -1,5 +1,6 @@
 // Carts that are in one cell at one step, and carts that exchange cells: refusals 8 and 9, of paths in an array. A path's cells follow those of the path before it.
 #![tactic(auto)]
+
 ghost use Rattle.std.specs.Prelude.{◌≡◌, ◌*◌, ◌≤◌, leb, length};
 ghost use Rattle.std.proofs.Math.Option.{none};
 ghost use Rattle.floor.specs.Paths.{first_same_cell, first_exchange};

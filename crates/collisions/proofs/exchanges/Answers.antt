@@ -3,14 +3,14 @@
 use Prim.Native.Nat.{ℕ, ◌+◌, ◌*◌, ◌-◌, ◌≤◌, ◌<◌}
 use native.Mathlib.Numerals.{unary_clauses}
 use native.Mathlib.Omega.{arith}
-use mathlib.Core.Path.{◌≡◌, refl, ap, sym, ◌∙◌}
-use mathlib.Core.Logic.{⊎_elim}
+use mathlib.Core.Path.{refl, ap, sym, ◌∙◌}
 use mathlib.Core.List.{List}
 use lib.ListN.{take, drop, get_or}
-use Rattle.floor.specs.Paths.{collides, first_collision, earliest, Move, exchanged, exchange, steps, first_exchange}
+use Rattle.floor.specs.Paths.{collides, Move, exchanged, exchange, steps, first_exchange}
 use Rattle.collisions.specs.Meetings.{paths_in, found}
 use Rattle.collisions.proofs.Searches.{path_fits, moves_at, moves_placed, moves_meet, moves_pass, stays_alone, other_passed, record_passed, record_found, records_past, step_to_passed, step_found, steps_over, steps_most, steps_all}
 use Rattle.collisions.proofs.exchanges.Goals as goal
+use Rattle.collisions.proofs.exchanges.Goals.{then-a-b, else-a-b, then-cells-k+else-cells-k-2, else-cells-k}
 use Rattle.collisions.proofs.exchanges.Goals.{In-loop-i, In-loop-k}
 
 pub steps-init : goal.steps-init
@@ -66,11 +66,11 @@ loop-k-init c =
     let x : Move = record { before = get_or a.cells.now (i * a.w + s - 1) 0; after = get_or a.cells.now (i * a.w + s) 0 } in
     let those : List Move = take i (moves_at a.carts a.w a.cells.now (s - 1)) in (
       c.loop-i.invariant.0,
-      ⊎_elim {C = collides exchanged x those ≡ collides exchanged x (drop c.if-a-b.k those)}
-          (λ u. stays_alone a.carts a.w a.cells.now c.requires.0 c.requires.1 s i (omega arith) (omega arith) (omega arith) u.0.taken
-          ∙ ap (λ (k : ℕ). collides exchanged x (drop k those)) (sym u.1))
-          (λ u. ap (λ (k : ℕ). collides exchanged x (drop k those)) (sym u.1))
-          c.if-a-b.branch,
+      elim c.if-a-b.branch [
+        | then-a-b u ↦ stays_alone a.carts a.w a.cells.now c.requires.0 c.requires.1 s i (omega arith) (omega arith) (omega arith) u.if-a-b.true
+            ∙ ap (λ (k : ℕ). collides exchanged x (drop k those)) (sym u.k-is)
+        | else-a-b u ↦ ap (λ (k : ℕ). collides exchanged x (drop k those)) (sym u.k-is)
+      ],
     )
 
 pub overflow_mul-k : goal.overflow_mul-k
@@ -115,7 +115,7 @@ loop-k-preserved c =
     let v = moves_placed a.carts a.w a.cells.now c.steps.s (omega arith) (omega arith) in (
       c.loop-k.invariant.0,
       c.loop-k.invariant.1 ∙ other_passed exchanged v c.loop-i.i c.loop-k.k (omega arith) (omega arith)
-          (moves_pass _ _ _ _ (⊎_elim (λ u p q. u.2.left q) (λ u p q. u.left p) c.if-cells-k.branch)),
+          (moves_pass _ _ _ _ (λ p q. elim c.if-cells-k.branch [ then-cells-k+else-cells-k-2 u ↦ u.if-cells-k-2.false q | else-cells-k u ↦ u.if-cells-k.false p ])),
     )
 
 pub overflow_add-i : goal.overflow_add-i

@@ -1,15 +1,11 @@
 -- `collisions::exchanges` meets its contract. The loops' invariants are those of `same_cells`, for the moves to a step.
 -- Assumes nothing.
-use Prim.Native.Nat.{ℕ, ◌+◌, ◌*◌, ◌-◌, ◌≤◌, ◌<◌}
-use native.Mathlib.Numerals.{unary_clauses}
-use native.Mathlib.Omega.{arith}
-use mathlib.Core.Path.{◌≡◌, refl, ap, sym, ◌∙◌}
-use mathlib.Core.Logic.{⊎_elim}
-use mathlib.Core.List.{List}
-use lib.ListN.{take, drop, get_or}
-use Rattle.floor.specs.Paths.{collides, first_collision, earliest, Move, exchanged, exchange, steps, first_exchange}
-use Rattle.collisions.specs.Meetings.{paths_in, found}
-use Rattle.collisions.proofs.Searches.{path_fits, moves_at, moves_placed, moves_meet, moves_pass, stays_alone, other_passed, record_passed, record_found, records_past, step_to_passed, step_found, steps_over, steps_most, steps_all}
+use Prim.Native.Nat.{◌-◌, ◌≤◌}
+use mathlib.Core.Path.{◌≡◌}
+use lib.ListN.{take, drop}
+use Rattle.floor.specs.Paths.{collides, first_collision, earliest, exchanged, exchange, steps, first_exchange}
+use Rattle.collisions.specs.Meetings.{paths_in}
+use Rattle.collisions.proofs.Searches.{moves_at}
 use Rattle.collisions.proofs.exchanges.Given as goal
 
 abbrev pub invariant-loop-k : goal.invariant-loop-k

@@ -1,5 +1,4 @@
 -- `collisions::fits` meets its contract: as many paths as the quotient has. Assumes nothing.
-use borrow.Author.Rules.{rules}
 use Rattle.collisions.proofs.Found.{fits_none, fits_test}
 use Rattle.collisions.proofs.fits.Goals as goal
 

@@ -1,15 +1,14 @@
 -- `collisions::same_cells` meets its contract. The loops' invariants: nothing was found at the steps passed, nor at this step among the carts
 -- passed, nor for this cart against those passed. Assumes nothing.
-use Prim.Native.Nat.{◌+◌, ◌*◌, ◌-◌, ◌≤◌, ◌<◌}
+use Prim.Native.Nat.{◌+◌, ◌*◌, ◌≤◌, ◌<◌}
 use native.Mathlib.Numerals.{unary_clauses}
 use native.Mathlib.Omega.{arith}
-use mathlib.Core.Path.{◌≡◌, refl, ap, sym, ◌∙◌}
+use mathlib.Core.Path.{refl, ap, sym, ◌∙◌}
 use borrow.Author.Tests.{eq-eqb, ne_eqb}
 use lib.Dec.{eqb}
-use lib.ListN.{take, drop}
-use Rattle.floor.specs.Paths.{collides, first_collision, earliest, same_cell, steps, first_same_cell}
+use Rattle.floor.specs.Paths.{same_cell, steps, first_same_cell}
 use Rattle.collisions.specs.Meetings.{paths_in, found}
-use Rattle.collisions.proofs.Searches.{path_fits, cells_at, cells_placed, other_passed, record_passed, record_found, records_past, step_passed, step_found, steps_over, steps_most, steps_all}
+use Rattle.collisions.proofs.Searches.{path_fits, cells_placed, other_passed, record_passed, record_found, records_past, step_passed, step_found, steps_over, steps_most, steps_all}
 use Rattle.collisions.proofs.same_cells.Goals as goal
 use Rattle.collisions.proofs.same_cells.Goals.{In-loop-i, In-loop-k}
 
