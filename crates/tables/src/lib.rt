@@ -1,5 +1,6 @@
 // The three tables read and judged into arrays. The definitions of the tables are those of floor; those of the arrays are in specs/.
 #![tactic(auto)]
+
 mod carts;
 mod on_roads;
 mod paths;

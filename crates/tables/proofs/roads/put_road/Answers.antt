@@ -1,0 +1,39 @@
+-- `tables::roads::put_road` meets its contract. Assumes nothing.
+use Prim.Native.Nat.{ℕ, suc, ◌+◌, ◌*◌}
+use native.Mathlib.Omega.{arith}
+use mathlib.Core.Path.{◌≡◌, sym, ◌∙◌}
+use mathlib.Core.List.{List, [], ◌∷◌}
+use lib.ListN.{set, length-set}
+use lib.Seq.{sets}
+use Rattle.tables.specs.Arrays.{road_numbers}
+use Rattle.tables.proofs.Indexes.{four_stored, stored_indexed, stored_bucket, one_indexed}
+use Rattle.tables.proofs.roads.put_road.Goals as goal
+
+-- four stores in a row
+four_stores : (s : List ℕ) (i a b l m : ℕ) → set (set (set (set s i a) (i + 1) b) (i + 2) l) (i + 3) m ≡ sets s i (a ∷ b ∷ l ∷ m ∷ [])
+four_stores s i a b l m =
+    let one : i + 1 ≡ suc i = omega arith in
+    let two : i + 2 ≡ suc (suc i) = omega arith in
+    let three : i + 3 ≡ suc (suc (suc i)) = omega arith in
+    rw (one, two, three)
+
+pub bounds-roads-n-2 : goal.bounds-roads-n-2
+bounds-roads-n-2 c = simp length-set (omega arith)
+
+pub bounds-roads-n-3 : goal.bounds-roads-n-3
+bounds-roads-n-3 c = simp length-set (omega arith)
+
+pub bounds-roads-n-4 : goal.bounds-roads-n-4
+bounds-roads-n-4 c = simp length-set (omega arith)
+
+pub returns : goal.returns
+unfolding road_numbers
+returns c =
+    let a = c.args in
+    let e = c.bucket_of-b.ensures in
+    let s : List ℕ = four_stored a.n a.roads.now a.from a.to a.len a.margin in
+    let here = e.0 ∙ sym (stored_bucket a.n a.roads.now a.from a.to a.len a.margin (omega arith)) in record {
+      left = four_stores a.roads.now (4 * a.n) a.from a.to a.len a.margin;
+      index = one_indexed s a.heads.now a.nexts.now a.n
+          (stored_indexed a.n a.roads.now a.from a.to a.len a.margin a.heads.now a.nexts.now c.requires.heads_len.2) c.bucket_of-b.result here e.1 (omega arith) (omega arith);
+    }
