@@ -1,5 +1,6 @@
 // The limits of events and bounds, counted from paths in an array. The definitions of events and bounds are those of network.
 #![tactic(auto)]
+
 mod count;
 mod orders;
 
