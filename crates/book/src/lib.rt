@@ -1,6 +1,7 @@
 // The marker's book, from the log of accepted reports: whether there is one, what it says of a further report, and the bounds that it
 // adds. Its definition is that of schedule.
 #![tactic(auto)]
+
 mod replay;
 mod writing;
 
