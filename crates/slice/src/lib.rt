@@ -1,5 +1,6 @@
 // The plan slice: the tables as handed in, and the log of accepted reports. The plan that it holds is read into arrays.
 #![tactic(auto)]
+
 mod parts;
 
 ghost use Rattle.std.specs.Prelude.{◌≡◌, true, ◌&&◌, ◌≤◌, length, take, drop};
