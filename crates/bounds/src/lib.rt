@@ -1,6 +1,7 @@
 // The bounds that a timetable goes by, written to two arrays: the events that each goes from and to, and its [lo, hi]. They are those of the plan that a slice
 // holds, and those that its log adds. The definitions of events and bounds are those of network.
 #![tactic(auto)]
+
 mod travel;
 
 ghost use Rattle.std.specs.Prelude.{◌≡◌, true, ℕ, ◌+◌, ◌*◌, ◌≤◌, ◌<◌, length, take, drop, get_or, replicate};
