@@ -14,7 +14,7 @@ use Rattle.laws.proofs.Signed.{Within}
 use Rattle.laws.proofs.Tests.{passes, fails}
 use Rattle.network.specs.Bounds.{Bound}
 use Rattle.walks.specs.Walks.{Arc}
-use Rattle.walks.specs.Passes.{Sums, pass, at_start, sums, first_agreeing, pass_number, Settled, settled}
+use Rattle.walks.specs.Passes.{Sums, pass, at_start, sums, first_agreeing, pass_number, settled}
 use Rattle.walks.specs.Parents.{Parents, adopt_all, parents, Trapped}
 use Rattle.walks.proofs.Greatest.{sums_length}
 use Rattle.walks.proofs.Outcome.{parents_length}

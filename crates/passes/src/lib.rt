@@ -1,6 +1,7 @@
 // Times of a network of bounds, by passes over its arcs, or a chain. The bounds are in two arrays: the events that each goes from and
 // to, and its lo and one more than its hi, 0 where hi is none. What is answered and written is defined in specs/.
 #![tactic(auto)]
+
 mod certificate;
 mod fits;
 mod links;
