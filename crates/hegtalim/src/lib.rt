@@ -1,5 +1,6 @@
 // The calls on a plan. The definitions of what they answer and leave are in specs/.
 #![tactic(auto)]
+
 ghost use Rattle.std.specs.Prelude.{◌≡◌, [], ◌+◌, ◌≤◌, ◌<◌, length, replicate};
 ghost use Rattle.words.specs.Words.{written, padded};
 ghost use Rattle.floor.specs.Refusal.{accepted};

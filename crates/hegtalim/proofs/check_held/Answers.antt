@@ -1,5 +1,4 @@
 -- `hegtalim::check_held` meets its contract: the log is checked in the parts of the slice where it stands. Assumes nothing.
-use borrow.Author.Rules.{rules}
 use Rattle.hegtalim.proofs.Reporting.{log_checked}
 use Rattle.hegtalim.proofs.check_held.Goals as goal
 

@@ -1,7 +1,5 @@
 -- `hegtalim::commas_from` meets its contract: it reads what is there, and counts no more than it reads. Assumes nothing.
 use Prim.Native.Nat.{◌-◌, ◌≤◌}
-use mathlib.Core.Logic.{⊎_elim}
-use borrow.Author.Rules.{rules}
 use Rattle.hegtalim.proofs.commas_from.Given as goal
 
 abbrev pub invariant-loop-i : goal.invariant-loop-i

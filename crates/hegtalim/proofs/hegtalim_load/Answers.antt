@@ -3,7 +3,6 @@ use mathlib.Core.Path.{ap, ◌∙◌}
 use Rattle.hegtalim.specs.declared.Loaded.{Loaded}
 use Rattle.hegtalim.specs.Answers.{loaded_answer, c_number}
 use Rattle.hegtalim.proofs.CNumbers.{value_small}
-use borrow.Author.Rules.{rules}
 use Rattle.hegtalim.proofs.hegtalim_load.Goals as goal
 
 pub loaded_number-requires : goal.loaded_number-requires
@@ -11,7 +10,7 @@ loaded_number-requires c = value_small _ _ _ c.load-x.ensures.answer
 
 pub returns : goal.returns
 returns c =
-    let (answer, left) = (c.load-x.ensures.answer, c.load-x.ensures.left) in record {
-      answer = c.loaded_number.ensures ∙ ap (λ (x : Loaded). c_number (loaded_answer x)) answer;
-      left = left;
+    record {
+      answer = c.loaded_number.ensures ∙ ap (λ (x : Loaded). c_number (loaded_answer x)) c.load-x.ensures.answer;
+      left = c.load-x.ensures.left;
     }

@@ -2,12 +2,11 @@
 use mathlib.Core.Path.{ap, ◌∙◌}
 use Rattle.hegtalim.specs.declared.Reported.{Reported}
 use Rattle.hegtalim.specs.Answers.{reported_answer, c_number}
-use borrow.Author.Rules.{rules}
 use Rattle.hegtalim.proofs.hegtalim_report.Goals as goal
 
 pub returns : goal.returns
 returns c =
-    let (answer, left) = (c.report-x.ensures.answer, c.report-x.ensures.left) in record {
-      answer = c.reported_number.ensures ∙ ap (λ (x : Reported). c_number (reported_answer x)) answer;
-      left = left;
+    record {
+      answer = c.reported_number.ensures ∙ ap (λ (x : Reported). c_number (reported_answer x)) c.report-x.ensures.answer;
+      left = c.report-x.ensures.left;
     }

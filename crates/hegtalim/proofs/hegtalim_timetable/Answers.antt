@@ -1,5 +1,4 @@
 -- `hegtalim::hegtalim_timetable` is `timetable`, its answer as one number, on all input. Assumes nothing.
-use borrow.Author.Rules.{rules}
 use Rattle.hegtalim.proofs.TimedNumbers.{timed_small}
 use Rattle.hegtalim.proofs.hegtalim_timetable.Goals as goal
 

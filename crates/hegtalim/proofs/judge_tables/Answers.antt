@@ -4,7 +4,6 @@ use lib.Dec.{lit≤}
 use Rattle.floor.specs.Tables.{Tables}
 use Rattle.tables.proofs.TablesRead.{answer_short}
 use Rattle.hegtalim.proofs.Loading.{judged_refused, judged_held, judged_over}
-use borrow.Author.Rules.{rules}
 use Rattle.hegtalim.proofs.judge_tables.Goals as goal
 use Rattle.hegtalim.proofs.judge_tables.Goals.{After-read_cells-x}
 

@@ -9,7 +9,6 @@ use Rattle.tables.proofs.TablesRead.{blank}
 use Rattle.slice.specs.PlanSlice.{plan_slice}
 use Rattle.slice.proofs.Slice.{judged_fit}
 use Rattle.hegtalim.proofs.Loading.{held_said, short_said, loads_short, loads_refused, loads_held}
-use borrow.Author.Rules.{rules}
 use Rattle.hegtalim.proofs.load.Goals as goal
 use Rattle.hegtalim.proofs.load.Goals.{After-judge_tables-x}
 

@@ -1,6 +1,5 @@
 -- `hegtalim::loaded_number` answers the number that C gets for an answer of a load. Assumes nothing.
 use Rattle.hegtalim.proofs.CNumbers.{number_held, number_short, number_refused, table_fits, low_fits, row_fits, number_fits}
-use borrow.Author.Rules.{rules}
 use Rattle.hegtalim.proofs.loaded_number.Goals as goal
 
 pub overflow_mul-result : goal.overflow_mul-result

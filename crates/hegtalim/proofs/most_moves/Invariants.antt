@@ -1,6 +1,5 @@
 -- `hegtalim::most_moves` meets its contract: it looks at bytes that are there, and at no more than 64 blocks. Assumes nothing.
 use Prim.Native.Nat.{◌-◌, ◌≤◌}
-use borrow.Author.Rules.{rules}
 use Rattle.hegtalim.proofs.most_moves.Given as goal
 
 abbrev pub invariant-loop-blocks : goal.invariant-loop-blocks

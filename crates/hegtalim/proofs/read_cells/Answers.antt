@@ -2,7 +2,6 @@
 use mathlib.Core.Path.{◌∙◌}
 use lib.Dec.{lit≤}
 use Rattle.hegtalim.proofs.Loading.{read_said, cells_left}
-use borrow.Author.Rules.{rules}
 use Rattle.hegtalim.proofs.read_cells.Goals as goal
 
 pub returns : goal.returns

@@ -1,5 +1,4 @@
 -- `hegtalim::reported_number` answers the number that C gets for an answer of a report. Assumes nothing.
-use borrow.Author.Rules.{rules}
 use Rattle.hegtalim.proofs.Reporting.{number_reported, numbers_are}
 use Rattle.hegtalim.proofs.reported_number.Goals as goal
 

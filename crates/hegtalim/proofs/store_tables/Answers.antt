@@ -4,7 +4,6 @@ use lib.ListN.{length}
 use Rattle.words.specs.Words.{written}
 use Rattle.words.proofs.Padding.{written_zeros}
 use Rattle.hegtalim.proofs.Storing.{tables_stored}
-use borrow.Author.Rules.{rules}
 use Rattle.hegtalim.proofs.store_tables.Goals as goal
 
 pub returns : goal.returns

@@ -1,6 +1,5 @@
 -- `hegtalim::time_in` meets its contract: no plan is held, there is no room, or times or a chain are found. Assumes nothing.
 use mathlib.Core.Path.{ap}
-use borrow.Author.Rules.{rules}
 use Rattle.hegtalim.specs.Working.{done}
 use Rattle.hegtalim.proofs.Timing.{told}
 use Rattle.hegtalim.proofs.TimedPlans.{needs_there, never_short, none_held, found}

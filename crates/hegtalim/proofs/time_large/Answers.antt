@@ -2,7 +2,6 @@
 use Prim.Native.Nat.{ℕ}
 use native.Mathlib.Omega.{arith}
 use lib.ListN.{length-replicate}
-use borrow.Author.Rules.{rules}
 use Rattle.hegtalim.proofs.TimedPlans.{large_done}
 use Rattle.hegtalim.proofs.time_large.Goals as goal
 

@@ -1,6 +1,5 @@
 -- `hegtalim::timed_number` answers the number that C gets for an answer of a timetable. Assumes nothing.
 use native.Mathlib.Omega.{arith}
-use borrow.Author.Rules.{rules}
 use Rattle.hegtalim.proofs.TimedNumbers.{number_times, number_timed_short, number_no_plan, number_chain, times_value, chain_value}
 use Rattle.hegtalim.proofs.timed_number.Goals as goal
 

@@ -1,5 +1,4 @@
 -- `hegtalim::timetable` meets its contract: a slice is too short, or the plan is timed. Assumes nothing.
-use borrow.Author.Rules.{rules}
 use Rattle.hegtalim.proofs.TimedPlans.{plan_short, times_short, bounds_short, directions_short}
 use Rattle.hegtalim.proofs.timetable.Goals as goal
 

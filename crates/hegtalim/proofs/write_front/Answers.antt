@@ -1,10 +1,9 @@
 -- `hegtalim::write_front` meets its contract: the first i bytes are written. Assumes nothing.
-use mathlib.Core.Path.{◌≡◌, refl, ap, ◌∙◌}
-use mathlib.Core.List.{List, ◌++◌}
-use Prim.Native.Nat.{ℕ, ◌-◌, ◌≤◌}
+use mathlib.Core.Path.{refl, ap, ◌∙◌}
+use mathlib.Core.List.{List}
+use Prim.Native.Nat.{ℕ}
 use native.Mathlib.Omega.{arith}
-use lib.ListN.{length, take, drop, set, get_or, length-set}
-use borrow.Author.Rules.{rules}
+use lib.ListN.{set, get_or, length-set}
 use Rattle.hegtalim.proofs.Storing.{front_more, front_all}
 use Rattle.hegtalim.proofs.write_front.Goals as goal
 

@@ -1,11 +1,8 @@
 -- `hegtalim::write_front` meets its contract: the first i bytes are written. Assumes nothing.
-use mathlib.Core.Path.{◌≡◌, refl, ap, ◌∙◌}
-use mathlib.Core.List.{List, ◌++◌}
-use Prim.Native.Nat.{ℕ, ◌-◌, ◌≤◌}
-use native.Mathlib.Omega.{arith}
-use lib.ListN.{length, take, drop, set, get_or, length-set}
-use borrow.Author.Rules.{rules}
-use Rattle.hegtalim.proofs.Storing.{front_more, front_all}
+use mathlib.Core.Path.{◌≡◌}
+use mathlib.Core.List.{◌++◌}
+use Prim.Native.Nat.{◌-◌, ◌≤◌}
+use lib.ListN.{length, take, drop}
 use Rattle.hegtalim.proofs.write_front.Given as goal
 
 abbrev pub invariant-loop-i : goal.invariant-loop-i
