@@ -1,5 +1,6 @@
 // What is printed for three tables, as bytes in a lent slice. The definitions are in specs/.
 #![tactic(auto)]
+
 mod events;
 mod lines;
 

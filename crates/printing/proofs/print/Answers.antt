@@ -1,7 +1,6 @@
 -- `printing::print` meets its contract, on all input. Assumes nothing.
 use Rattle.floor.specs.Tables.{Tables}
 use Rattle.printing.proofs.Outcomes.{prints_short, prints_text}
-use borrow.Author.Rules.{rules}
 use Rattle.printing.proofs.print.Goals as goal
 use Rattle.printing.proofs.print.Goals.{Start}
 

@@ -2,7 +2,6 @@
 use Rattle.floor.specs.Tables.{Tables}
 use Rattle.printing.proofs.Puts.{put_as}
 use Rattle.printing.proofs.Outcomes.{never_short, refused_output, held_output}
-use borrow.Author.Rules.{rules}
 use Rattle.printing.proofs.put_output.Goals as goal
 use Rattle.printing.proofs.put_output.Goals.{Start}
 

@@ -4,7 +4,6 @@ use mathlib.Core.Option.{none-ne-some}
 use Rattle.words.specs.Words.{word_at}
 use Rattle.slice.proofs.HeldPlan.{never_short, no_plan, held_there}
 use Rattle.printing.proofs.Plans.{array_there, events_few, plan_room, plan_put}
-use borrow.Author.Rules.{rules}
 use Rattle.printing.proofs.put_plan.Goals as goal
 
 pub put_times-requires : goal.put_times-requires

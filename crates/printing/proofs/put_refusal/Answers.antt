@@ -7,7 +7,6 @@ use Rattle.floor.specs.Refusal.{reason_number, table_number}
 use Rattle.printing.specs.Lines.{field, ending}
 use Rattle.printing.proofs.Puts.{put_then, put_as, four_2, four_3, four_4}
 use Rattle.printing.proofs.Texts.{refusal_line, refusal_whole, refusal_room}
-use borrow.Author.Rules.{rules}
 use Rattle.printing.proofs.put_refusal.Goals as goal
 
 pub put_field-k-requires : goal.put_field-k-requires

@@ -4,7 +4,6 @@ use Rattle.rfc4180.specs.Text.{bytes}
 use Rattle.schedule.specs.Lent.{Lent}
 use Rattle.printing.proofs.Puts.{put_as}
 use Rattle.printing.proofs.Timings.{none_text, never_short, never_none, none_said, times_said}
-use borrow.Author.Rules.{rules}
 use Rattle.printing.proofs.put_timed.Goals as goal
 use Rattle.printing.proofs.put_timed.Goals.{After-timetable-x}
 

@@ -1,15 +1,14 @@
 -- `printing::events::put_path` meets its contract: the line of the first cell, then three for each move. Assumes nothing.
-use Prim.Native.Nat.{◌-◌, ◌<◌}
+use Prim.Native.Nat.{◌<◌}
 use native.Mathlib.Omega.{arith}
 use mathlib.Core.Path.{◌∙◌}
-use mathlib.Core.Logic.{⊎_elim}
-use borrow.Author.Rules.{rules}
 use lib.ListN.{get_or}
 use Rattle.printing.specs.Lines.{point_line}
 use Rattle.words.specs.Words.{word_at}
 use Rattle.printing.proofs.Puts.{put_length}
-use Rattle.printing.proofs.PathSteps.{OnPath, on_first, first_room, on_last, on_room, on_wait, on_move}
+use Rattle.printing.proofs.PathSteps.{on_first, first_room, on_last, on_room, on_wait, on_move}
 use Rattle.printing.proofs.events.put_path.Goals as goal
+use Rattle.printing.proofs.events.put_path.Goals.{then-c-d, else-c-d}
 
 pub put_point-place-requires : goal.put_point-place-requires
 put_point-place-requires c =
@@ -35,10 +34,10 @@ pub loop-s-preserved : goal.loop-s-preserved
 loop-s-preserved c =
     let a = c.args in
     let t : c.loop-s.s < a.steps = c.loop-s-test.true in
-    ⊎_elim
-    (λ w. on_move (word_at 8 a.times.now) a.j a.cells.now a.at a.steps c.requires.le_steps.2 a.e c.requires.le_steps.0 c.put_point-place.new.out c.put_point-place.result c.loop-s.out c.loop-s.c c.loop-s.place c.loop-s.event c.loop-s.s c.loop-s.invariant t c.if-c-d.out c.if-c-d.place c.if-c-d.event w.0.taken _ _ w.2.ensures w.5 w.6 w.7)
-    (λ w. on_wait (word_at 8 a.times.now) a.j a.cells.now a.at a.steps c.requires.le_steps.2 a.e c.requires.le_steps.0 c.put_point-place.new.out c.put_point-place.result c.loop-s.out c.loop-s.c c.loop-s.place c.loop-s.event c.loop-s.s c.loop-s.invariant t c.if-c-d.out c.if-c-d.place c.if-c-d.event w.0.left w.1 w.2 w.3)
-    c.if-c-d.branch
+    elim c.if-c-d.branch [
+      | then-c-d w ↦ on_move (word_at 8 a.times.now) a.j a.cells.now a.at a.steps c.requires.le_steps.2 a.e c.requires.le_steps.0 c.put_point-place.new.out c.put_point-place.result c.loop-s.out c.loop-s.c c.loop-s.place c.loop-s.event c.loop-s.s c.loop-s.invariant t c.if-c-d.out c.if-c-d.place c.if-c-d.event w.if-c-d.true _ _ w.put_move-place.ensures w.out-is w.place-is w.event-is
+      | else-c-d w ↦ on_wait (word_at 8 a.times.now) a.j a.cells.now a.at a.steps c.requires.le_steps.2 a.e c.requires.le_steps.0 c.put_point-place.new.out c.put_point-place.result c.loop-s.out c.loop-s.c c.loop-s.place c.loop-s.event c.loop-s.s c.loop-s.invariant t c.if-c-d.out c.if-c-d.place c.if-c-d.event w.if-c-d.false w.out-is w.place-is w.event-is
+    ]
 
 pub shape_of-out : goal.shape_of-out
 shape_of-out c =

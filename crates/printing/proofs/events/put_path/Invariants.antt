@@ -1,14 +1,7 @@
 -- `printing::events::put_path` meets its contract: the line of the first cell, then three for each move. Assumes nothing.
-use Prim.Native.Nat.{◌-◌, ◌<◌}
-use native.Mathlib.Omega.{arith}
-use mathlib.Core.Path.{◌∙◌}
-use mathlib.Core.Logic.{⊎_elim}
-use borrow.Author.Rules.{rules}
-use lib.ListN.{get_or}
-use Rattle.printing.specs.Lines.{point_line}
+use Prim.Native.Nat.{◌-◌}
 use Rattle.words.specs.Words.{word_at}
-use Rattle.printing.proofs.Puts.{put_length}
-use Rattle.printing.proofs.PathSteps.{OnPath, on_first, first_room, on_last, on_room, on_wait, on_move}
+use Rattle.printing.proofs.PathSteps.{OnPath}
 use Rattle.printing.proofs.events.put_path.Given as goal
 
 abbrev pub invariant-loop-s : goal.invariant-loop-s

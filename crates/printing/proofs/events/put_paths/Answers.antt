@@ -1,9 +1,8 @@
 -- `printing::events::put_paths` meets its contract: one path after the other. Assumes nothing.
-use Prim.Native.Nat.{◌-◌, ◌<◌}
+use Prim.Native.Nat.{◌<◌}
 use native.Mathlib.Omega.{arith}
-use borrow.Author.Rules.{rules}
 use Rattle.words.specs.Words.{word_at}
-use Rattle.printing.proofs.CartSteps.{OnCarts, carts_first, carts_last, path_there, path_few, path_room, carts_next}
+use Rattle.printing.proofs.CartSteps.{carts_first, carts_last, path_there, path_few, path_room, carts_next}
 use Rattle.printing.proofs.events.put_paths.Goals as goal
 
 pub loop-i-init : goal.loop-i-init

@@ -8,7 +8,6 @@ use Rattle.limits.specs.Counts.{total, moves}
 use Rattle.printing.specs.Lines.{outer_line, paths_lines, lines_text}
 use Rattle.printing.proofs.Puts.{put_then, room_first, four_2, four_3, four_4}
 use Rattle.printing.proofs.Texts.{times_line, times_room, outer_room, outer_put}
-use borrow.Author.Rules.{rules}
 use Rattle.printing.proofs.events.put_times.Goals as goal
 
 pub put_text-k-requires : goal.put_text-k-requires

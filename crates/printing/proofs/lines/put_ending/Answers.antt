@@ -3,7 +3,6 @@ use native.Mathlib.Omega.{arith}
 use lib.ListN.{length-set}
 use Rattle.printing.proofs.Puts.{put_length}
 use Rattle.printing.proofs.Fields.{ending_put, ending_length}
-use borrow.Author.Rules.{rules}
 use Rattle.printing.proofs.lines.put_ending.Goals as goal
 
 pub put_number-k-requires : goal.put_number-k-requires

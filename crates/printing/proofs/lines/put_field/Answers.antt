@@ -2,7 +2,6 @@
 use native.Mathlib.Omega.{arith}
 use Rattle.printing.proofs.Puts.{put_length}
 use Rattle.printing.proofs.Fields.{field_put, field_length}
-use borrow.Author.Rules.{rules}
 use Rattle.printing.proofs.lines.put_field.Goals as goal
 
 pub put_number-k-requires : goal.put_number-k-requires

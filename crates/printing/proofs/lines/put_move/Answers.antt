@@ -4,7 +4,6 @@ use mathlib.Core.List.{List, ◌++◌}
 use Rattle.words.specs.Words.{word_at}
 use Rattle.printing.specs.Lines.{point_line, move_lines}
 use Rattle.printing.proofs.Puts.{put_then, room_first, three_2, three_3}
-use borrow.Author.Rules.{rules}
 use Rattle.printing.proofs.lines.put_move.Goals as goal
 
 pub put_point-k-requires : goal.put_point-k-requires

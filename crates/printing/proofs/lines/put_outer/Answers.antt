@@ -6,8 +6,7 @@ use mathlib.Core.List.{[], ◌∷◌, ◌++◌}
 use lib.ListN.{length, set}
 use Rattle.words.specs.Words.{word_at}
 use Rattle.printing.specs.Lines.{field, ending, outer_line}
-use Rattle.printing.proofs.Puts.{put_one, put_then, put_as, put_length, room_first, four_2, four_3, four_4}
-use borrow.Author.Rules.{rules}
+use Rattle.printing.proofs.Puts.{put_one, put_then, put_as, room_first, four_2, four_3, four_4}
 use Rattle.printing.proofs.lines.put_outer.Goals as goal
 
 pub put_field-k-requires : goal.put_field-k-requires
@@ -50,6 +49,3 @@ returns c =
     let k = c.put_field-k-2.result in
     let last = put_as (ap ending c.get64.ensures) c.put_ending.ensures in
     put_then c.put_field-k.ensures (put_then c.put_field-k-2.ensures (put_then (put_one t k 44 (set t k 44) (k + 1) refl refl) last))
-
-pub shape_of-out : goal.shape_of-out
-shape_of-out c = put_length (returns (goal.at.shape_of-out c).After-slice_known-4-1)

@@ -6,7 +6,6 @@ use mathlib.Core.List.{◌++◌}
 use Rattle.printing.specs.Lines.{field, ending, point_line}
 use Rattle.printing.proofs.Puts.{put_then, put_as, room_first, four_2, four_3, four_4}
 use Rattle.words.specs.Words.{word_at}
-use borrow.Author.Rules.{rules}
 use Rattle.printing.proofs.lines.put_point.Goals as goal
 
 pub put_field-k-requires : goal.put_field-k-requires

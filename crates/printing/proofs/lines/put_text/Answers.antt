@@ -1,9 +1,7 @@
 -- `printing::lines::put_text` meets its contract: the bytes from the i-th on are still to be put. Assumes nothing.
-use Prim.Native.Nat.{◌+◌, ◌-◌, ◌≤◌}
 use native.Mathlib.Omega.{arith}
-use lib.ListN.{length, drop, drop_of_length-le}
-use Rattle.printing.proofs.Puts.{Putting, put_all, text_none, text_one}
-use borrow.Author.Rules.{rules}
+use lib.ListN.{drop_of_length-le}
+use Rattle.printing.proofs.Puts.{put_all, text_none, text_one}
 use Rattle.printing.proofs.lines.put_text.Goals as goal
 
 pub loop-i-init : goal.loop-i-init
