@@ -441,8 +441,7 @@ fn loaded_number(x: Loaded) -> u64
 }
 
 // `load` for a program in C.
-#[unsafe(no_mangle)]
-pub extern "C" fn hegtalim_load(roads: &[u8], carts: &[u8], paths: &[u8], plan: &mut [u8]) -> u64
+pub fn hegtalim_load(roads: &[u8], carts: &[u8], paths: &[u8], plan: &mut [u8]) -> u64
     ensures answer { result ≡ c_number (loaded_answer (load (record { roads = roads.entry.now; carts = carts.now; paths = paths.now }) plan.old).answer) }
     ensures left { plan.new ≡ (load (record { roads = roads.entry.now; carts = carts.now; paths = paths.now }) plan.old).plan }
 {
@@ -464,8 +463,7 @@ fn reported_number(x: Reported) -> u64
 }
 
 // `report` for a program in C.
-#[unsafe(no_mangle)]
-pub extern "C" fn hegtalim_report(plan: &mut [u8], cart: u64, time: u64) -> u64
+pub fn hegtalim_report(plan: &mut [u8], cart: u64, time: u64) -> u64
     ensures answer { result ≡ c_number (reported_answer (report plan.old (cart at time)).answer) }
     ensures left { plan.new ≡ (report plan.old (cart at time)).plan }
 {
@@ -487,8 +485,7 @@ fn timed_number(x: Timed) -> u64
 }
 
 // `timetable` for a program in C.
-#[unsafe(no_mangle)]
-pub extern "C" fn hegtalim_timetable(
+pub fn hegtalim_timetable(
     plan: &[u8],
     times: &mut [u8],
     numbers: &mut [u8],
