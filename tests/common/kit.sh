@@ -1,0 +1,36 @@
+# The kit, and what is made of the proved crates. To be read by bash from the top of the repository.
+
+kit=$(dirname "$(dirname "$(readlink -f "$(command -v rt)")")")
+kit_tools=$kit/toolchain
+
+# the crates that a crate stands on, as crates.txt lists them
+below() { # CRATE
+    sed -n -E "s/^$1( staticlib)?: *//p" crates.txt
+}
+
+# the words for the kit's rattle, run in the folder of a library or of a copy of it, over the libraries of the crates below it that rt has left in out/
+crate_words() { # CRATE
+    local name
+    printf '%s\n' --crate-name "$1" src/lib.rt --extern "std=$kit/rlibs/std.rlib" -L "dependency=$kit/rlibs"
+    for name in $(below "$1"); do
+        printf '%s\n' --extern "$name=$PWD/crates/$name/out/rlib/$name.rlib" -L "dependency=$PWD/crates/$name/out/rlib"
+    done
+    printf '%s\n' --antt-project "$kit/rattle/logic/antt-project.json" --logic-built "$kit/logic_built" --links "$1="
+}
+
+# target/staticlib/libhegtalim.a, which the kit makes of hegtalim_c where that and all below it is proved
+build_archive() {
+    (cd crates/hegtalim_c && rt lib) && name_archive
+}
+
+# the same right after `rt ci` in a checkout that had no out/ before: over the libraries that this has proved, so that hegtalim_c alone is proved again
+build_archive_after_ci() {
+    local words
+    mapfile -t words < <(crate_words hegtalim_c)
+    (cd crates/hegtalim_c && mkdir -p out &&
+        "$kit/bin/rattle" build "${words[@]}" --crate-type staticlib --toolchain "$kit_tools" --backend llvm -o out/libhegtalim_c.a) && name_archive
+}
+
+name_archive() {
+    mkdir -p target/staticlib && cp crates/hegtalim_c/out/libhegtalim_c.a target/staticlib/libhegtalim.a
+}
