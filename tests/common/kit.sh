@@ -23,14 +23,25 @@ build_archive() {
     (cd crates/hegtalim_c && rt lib) && name_archive
 }
 
-# the same right after `rt ci` in a checkout that had no out/ before: over the libraries that this has proved, so that hegtalim_c alone is proved again
+# target/bin/timetable, which the kit makes of the proved crate timetable, and then runs, here where there are no tables
+build_program() {
+    (cd crates/timetable && rt run </dev/null) && name_program
+}
+
+# the same right after `rt ci` in a checkout that had no out/ before: of what this has proved and left there, so that hegtalim_c alone is proved once more
 build_archive_after_ci() {
     local words
     mapfile -t words < <(crate_words hegtalim_c)
     (cd crates/hegtalim_c && mkdir -p out &&
         "$kit/bin/rattle" build "${words[@]}" --crate-type staticlib --toolchain "$kit_tools" --backend llvm -o out/libhegtalim_c.a) && name_archive
 }
+build_program_after_ci() {
+    name_program
+}
 
 name_archive() {
-    mkdir -p target/staticlib && cp crates/hegtalim_c/out/libhegtalim_c.a target/staticlib/libhegtalim.a
+    mkdir -p target/staticlib && install -m 644 crates/hegtalim_c/out/libhegtalim_c.a target/staticlib/libhegtalim.a
+}
+name_program() {
+    mkdir -p target/bin && install -m 755 crates/timetable/out/timetable target/bin/timetable
 }
