@@ -13,7 +13,7 @@ use Rattle.bounds.specs.Network.{Numbers}
 use Rattle.bounds.proofs.Whole.{sizes, finish_small, answered, firsts_held}
 use Rattle.bounds.proofs.Fits.{over_limits, all_fits}
 use Rattle.bounds.proofs.write_bounds.Goals as goal
-use Rattle.bounds.proofs.write_bounds.Goals.{After-slice_known-4-1, Else-not-first_events, Start}
+use Rattle.bounds.proofs.write_bounds.Goals.{Else-not-first_events, Start}
 
 -- the arrays of the plan
 abbrev numbers : Start → Numbers
@@ -35,20 +35,13 @@ kept c =
 -- there are few carts
 few : (c : Else-not-first_events) → c.args.carts ≤ 64
 few c =
-    let the-kept : let a = c.args in events_kept a.carts a.steps a.cells.now ≡ true = let a = c.args in
-    sym (fit_there a.carts a.steps a.cells.now) ∙ sym c.first_events.ensures.answer ∙ c.if-not-first_events.false in
     let a = c.args in
-    (sizes a.roads a.carts a.steps (record { edges = c.args.edges.now; speeds = c.args.speeds.now; cells = c.args.cells.now }) (the-kept)).0.0
+    (sizes a.roads a.carts a.steps (record { edges = a.edges.now; speeds = a.speeds.now; cells = a.cells.now }) (kept c)).0.0
 
 -- and the first events stand in front
 held : (c : Else-not-first_events)
-    → let a = c.args in
-    take (a.carts + 1) c.first_events.new.firsts ≡ first_events (of_paths (paths_in a.carts a.steps a.cells.now))
-held c =
-    let the-kept : let a = c.args in events_kept a.carts a.steps a.cells.now ≡ true = let a = c.args in
-    sym (fit_there a.carts a.steps a.cells.now) ∙ sym c.first_events.ensures.answer ∙ c.if-not-first_events.false in
-    let a = c.args in
-    firsts_held a.carts a.steps a.cells.now (replicate 65 0) c.first_events.new.firsts (the-kept) c.first_events.ensures.left
+    → let a = c.args in take (a.carts + 1) c.first_events.new.firsts ≡ first_events (of_paths (paths_in a.carts a.steps a.cells.now))
+held c = let a = c.args in firsts_held a.carts a.steps a.cells.now (replicate 65 0) c.first_events.new.firsts (kept c) c.first_events.ensures.left
 
 pub write_all-n-requires : goal.write_all-n-requires
 write_all-n-requires c = record {
@@ -62,23 +55,16 @@ pub bounds-firsts-carts : goal.bounds-firsts-carts
 bounds-firsts-carts c = omega (arith, few (goal.at.bounds-firsts-carts c).Else-not-first_events)
 
 -- the finish's number is small
-small : (c : After-slice_known-4-1)
-    → get_or c.first_events.new.firsts c.args.carts 0 ≤ 4096
+small : (c : Else-not-first_events) → get_or c.first_events.new.firsts c.args.carts 0 ≤ 4096
 small c =
-    let the-kept : let a = c.args in events_kept a.carts a.steps a.cells.now ≡ true = let a = c.args in
-    sym (fit_there a.carts a.steps a.cells.now) ∙ sym c.first_events.ensures.answer ∙ c.if-not-first_events.false in
-    let the-held : let a = c.args in take (a.carts + 1) c.first_events.new.firsts ≡ first_events (of_paths (paths_in a.carts a.steps a.cells.now)) = let the-kept : let a = c.args in events_kept a.carts a.steps a.cells.now ≡ true = let a = c.args in
-    sym (fit_there a.carts a.steps a.cells.now) ∙ sym c.first_events.ensures.answer ∙ c.if-not-first_events.false in
     let a = c.args in
-    firsts_held a.carts a.steps a.cells.now (replicate 65 0) c.first_events.new.firsts (the-kept) c.first_events.ensures.left in
-    let a = c.args in
-    finish_small a.roads a.carts a.steps (record { edges = c.args.edges.now; speeds = c.args.speeds.now; cells = c.args.cells.now }) c.first_events.new.firsts (the-held) (the-kept)
+    finish_small a.roads a.carts a.steps (record { edges = a.edges.now; speeds = a.speeds.now; cells = a.cells.now }) c.first_events.new.firsts (held c) (kept c)
 
 pub overflow_cast-last : goal.overflow_cast-last
-overflow_cast-last c = omega (arith, small (goal.at.overflow_cast-last c).After-slice_known-4-1)
+overflow_cast-last c = omega (arith, small (goal.at.overflow_cast-last c).Else-not-first_events)
 
 pub overflow_add-result : goal.overflow_add-result
-overflow_add-result c = omega (arith, small (goal.at.overflow_add-result c).After-slice_known-4-1)
+overflow_add-result c = omega (arith, small (goal.at.overflow_add-result c).Else-not-first_events)
 
 pub returns : goal.returns
 returns c =

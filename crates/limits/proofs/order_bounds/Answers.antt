@@ -37,10 +37,7 @@ kept c =
 few : (c : Else-moves-eq4096)
     → let a = c.args in
     ((a.carts ≤ 64) × (1 ≤ a.steps) × (a.steps ≤ 1024) × (a.carts * a.steps ≤ length a.cells.now)) × (2 + a.carts + 3 * total moves (paths_in a.carts a.steps a.cells.now) ≤ 4096)
-few c =
-    let the-kept : let a = c.args in (events_kept a.carts a.steps a.cells.now ≡ true) × (c.kept_moves-moves.result ≡ total moves (paths_in a.carts a.steps a.cells.now)) = let a = c.args in
-    moves_kept a.carts a.steps a.cells.now c.kept_moves-moves.result c.kept_moves-moves.ensures c.if-moves-eq4096.false in
-    let a = c.args in kept_says a.carts a.steps a.cells.now true (sym (the-kept).0) refl
+few c = let a = c.args in kept_says a.carts a.steps a.cells.now true (sym (kept c).0) refl
 
 pub overflow_add-carts : goal.overflow_add-carts
 overflow_add-carts c = omega (arith, (few (goal.at.overflow_add-carts c).Else-moves-eq4096).1, (kept (goal.at.overflow_add-carts c).Else-moves-eq4096).1)

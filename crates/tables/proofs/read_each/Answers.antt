@@ -30,32 +30,19 @@ roads_there : (c : In-Read) →
     (rs : List Road) × (read_roads c.args.roads.now ≡ accepted rs) × (length rs ≡ c.in-Read.n)
 roads_there c = counted_read _ _ (sym c.in-Read.is ∙ c.read_table-x.ensures.answer)
 
--- as their array holds them
-roads_are : (c : In-Read) →
-    let the-roads_there : (rs : List Road) × (read_roads c.args.roads.now ≡ accepted rs) × (length rs ≡ c.in-Read.n) = counted_read _ _ (sym c.in-Read.is ∙ c.read_table-x.ensures.answer) in
-    roads_in c.in-Read.n c.read_table-x.new.roads ≡ (the-roads_there).0
-roads_are c =
-    let the-roads_there : (rs : List Road) × (read_roads c.args.roads.now ≡ accepted rs) × (length rs ≡ c.in-Read.n) = counted_read _ _ (sym c.in-Read.is ∙ c.read_table-x.ensures.answer) in
-    let (rs, e, n) = the-roads_there in
-    ap (λ (k : ℕ). roads_in k c.read_table-x.new.roads) (sym n) ∙ ap (roads_in (length rs)) (c.read_table-x.ensures.left rs e) ∙ roads_held _ rs
-
 -- the carts
 carts_there : (c : In-Read-y) →
     (cs : List Cart) × (read_carts c.args.carts.now ≡ accepted cs) × (length cs ≡ c.in-Read-y.m)
 carts_there c = counted_read _ _ (sym c.in-Read-y.is ∙ c.read_table-y.ensures.answer)
 
--- what was said of the paths
-paths_said : (c : After-read_apart-z) →
-    let the-roads_there : (rs : List Road) × (read_roads c.args.roads.now ≡ accepted rs) × (length rs ≡ c.in-Read.n) = counted_read _ _ (sym c.in-Read.is ∙ c.read_table-x.ensures.answer) in
-    let the-carts_there : (cs : List Cart) × (read_carts c.args.carts.now ≡ accepted cs) × (length cs ≡ c.in-Read-y.m) = counted_read _ _ (sym c.in-Read-y.is ∙ c.read_table-y.ensures.answer) in
-    read_apart (roads_in c.in-Read.n c.read_table-x.new.roads) c.in-Read-y.m c.args.paths.now
-    ≡ read_apart (the-roads_there).0 (length (the-carts_there).0) c.args.paths.now
-paths_said c =
-    let the-roads_are : let the-roads_there : (rs : List Road) × (read_roads c.args.roads.now ≡ accepted rs) × (length rs ≡ c.in-Read.n) = counted_read _ _ (sym c.in-Read.is ∙ c.read_table-x.ensures.answer) in roads_in c.in-Read.n c.read_table-x.new.roads ≡ (the-roads_there).0 = let the-roads_there : (rs : List Road) × (read_roads c.args.roads.now ≡ accepted rs) × (length rs ≡ c.in-Read.n) = counted_read _ _ (sym c.in-Read.is ∙ c.read_table-x.ensures.answer) in
-    let (rs, e, n) = the-roads_there in
-    ap (λ (k : ℕ). roads_in k c.read_table-x.new.roads) (sym n) ∙ ap (roads_in (length rs)) (c.read_table-x.ensures.left rs e) ∙ roads_held _ rs in
-    let the-carts_there : (cs : List Cart) × (read_carts c.args.carts.now ≡ accepted cs) × (length cs ≡ c.in-Read-y.m) = counted_read _ _ (sym c.in-Read-y.is ∙ c.read_table-y.ensures.answer) in
-    ap₂ (λ (x : List Road) (n : ℕ). read_apart x n c.args.paths.now) (the-roads_are) (sym (the-carts_there).2)
+-- what was said of the paths is said by the roads and carts that were read
+paths_said : (c : After-read_apart-z) (rs : List Road) → read_roads c.args.roads.now ≡ accepted rs → length rs ≡ c.in-Read.n
+    → (cs : List Cart) → length cs ≡ c.in-Read-y.m
+    → read_apart (roads_in c.in-Read.n c.read_table-x.new.roads) c.in-Read-y.m c.args.paths.now ≡ read_apart rs (length cs) c.args.paths.now
+paths_said c rs er n cs m =
+    let roads_are : roads_in c.in-Read.n c.read_table-x.new.roads ≡ rs =
+    ap (λ (k : ℕ). roads_in k c.read_table-x.new.roads) (sym n) ∙ ap (roads_in (length rs)) (c.read_table-x.ensures.left rs er) ∙ roads_held _ rs in
+    ap₂ (λ (x : List Road) (k : ℕ). read_apart x k c.args.paths.now) roads_are (sym m)
 
 pub read_apart-z-requires : goal.read_apart-z-requires
 read_apart-z-requires c =
@@ -86,23 +73,22 @@ returns-in-Refused-y c =
     record { answer = the-answer; edges = the-edges; speeds = the-speeds; cells = the-cells; index = the-index }
 
 pub returns-in-Refused-z : goal.returns-in-Refused-z
-unfolding roads_there carts_there
 returns-in-Refused-z c =
     let ts = tables (goal.at.returns-in-Refused-z c).Start in
-    let (rs, er, _) = roads_there (goal.at.returns-in-Refused-z c).In-Read in
-    let (cs, ec, _) = carts_there (goal.at.returns-in-Refused-z c).In-Read-y in
+    let (rs, er, n) = roads_there (goal.at.returns-in-Refused-z c).In-Read in
+    let (cs, ec, m) = carts_there (goal.at.returns-in-Refused-z c).In-Read-y in
     let (the-answer, (the-edges, (the-speeds, (the-cells, the-index)))) = each_refused (read_tables ts) _ _ _ _ _ _ _ _ _
-    (paths_are_refused ts rs er cs ec _ (sym (paths_said (goal.at.returns-in-Refused-z c).After-read_apart-z) ∙ paths_refused _ _ (sym c.in-Refused-z.is ∙ c.read_apart-z.ensures.answer))) in
+    (paths_are_refused ts rs er cs ec _ (sym (paths_said (goal.at.returns-in-Refused-z c).After-read_apart-z rs er n cs m) ∙ paths_refused _ _ (sym c.in-Refused-z.is ∙ c.read_apart-z.ensures.answer))) in
     record { answer = the-answer; edges = the-edges; speeds = the-speeds; cells = the-cells; index = the-index }
 
 pub returns-in-Read-z : goal.returns-in-Read-z
-unfolding read_answer roads_there carts_there
+unfolding read_answer
 returns-in-Read-z c =
     let ts = tables (goal.at.returns-in-Read-z c).Start in
     let (rs, er, n) = roads_there (goal.at.returns-in-Read-z c).In-Read in
     let (cs, ec, m) = carts_there (goal.at.returns-in-Read-z c).In-Read-y in
     let (ps, ep, _, w) = paths_answered _ _ _ (sym c.in-Read-z.is ∙ c.read_apart-z.ensures.answer) in
-    let (the-answer, (the-edges, (the-speeds, (the-cells, the-index)))) = each_read (read_tables ts) _ _ _ _ _ _ _ _ (plan_of rs cs ps) (all_read ts rs er cs ec ps (sym (paths_said (goal.at.returns-in-Read-z c).After-read_apart-z) ∙ ep)) _
+    let (the-answer, (the-edges, (the-speeds, (the-cells, the-index)))) = each_read (read_tables ts) _ _ _ _ _ _ _ _ (plan_of rs cs ps) (all_read ts rs er cs ec ps (sym (paths_said (goal.at.returns-in-Read-z c).After-read_apart-z rs er n cs m) ∙ ep)) _
     (ap₂ (λ (x y : ℕ). Reading.Read x y c.in-Read-z.w) (sym n) (sym m) ∙ ap (Reading.Read (length rs) (length cs)) w)
     (c.read_table-x.ensures.left rs er) (c.read_table-y.ensures.left cs ec) (c.read_apart-z.ensures.left ps ep)
     (c.read_table-x.ensures.index rs er) in

@@ -17,7 +17,7 @@ use Rattle.tables.proofs.Turns.{first_turn, whole_refused, refused_number, taken
 use Rattle.tables.proofs.RoadRecords.{road_fits, road_says, roads_held, road_four_numbers}
 use Rattle.tables.proofs.Indexes.{none_indexed, no_roads, all_roads}
 use Rattle.tables.proofs.roads.roads_from.Goals as goal
-use Rattle.tables.proofs.roads.roads_from.Goals.{After-take_road-x, In_default}
+use Rattle.tables.proofs.roads.roads_from.Goals.{After-take_road-x}
 
 pub loop-at-init : goal.loop-at-init
 loop-at-init c = (
@@ -70,28 +70,17 @@ returns-in-Refused c =
     let (the-answer, (the-left, the-index)) = no_roads _ _ _ _ _ _ (whole_refused road road_numbers _ _ _ _ _ _ u c.loop-at-test.true _ e) in
     record { answer = the-answer; left = the-left; index = the-index }
 
--- the record that is taken, as a road
-taken_road : (c : In_default) →
-    (d : Road) × (road c.loop-at.invariant.5.before (first_record (drop c.loop-at.at c.args.table.now)) ≡ accepted d)
-taken_road c =
-    let the-judged : road (roads_in c.loop-at.n c.loop-at.roads) c.first_record-row.result.now ≡ road c.loop-at.invariant.5.before (first_record (drop c.loop-at.at c.args.table.now)) = let t = c.args.table.now in
-    let u = c.loop-at.invariant.5 in
-    let before : roads_in c.loop-at.n c.loop-at.roads ≡ u.before =
-    ap (λ (k : ℕ). roads_in k c.loop-at.roads) (sym u.count) ∙ ap (roads_in (length u.before)) u.held ∙ roads_held _ u.before in
-    let row : c.first_record-row.result.now ≡ first_record (drop c.loop-at.at t) = c.first_record-row.ensures ∙ ap first_record (rest_is t c.loop-at.at) in
-    ap (λ (x : List Road). road x c.first_record-row.result.now) before ∙ ap (road u.before) row in
-    accepted_there _ (sym (ap taken (the-judged)) ∙ sym c.take_road-x.ensures.answer ∙ c.in_default.is)
-
 pub loop-at-preserved : goal.loop-at-preserved
 unfolding stored
 loop-at-preserved c =
     let t = c.args.table.now in
     let u = c.loop-at.invariant.5 in
-    let (d, e) = taken_road (goal.at.loop-at-preserved c).In_default in
+    let said = judged (goal.at.loop-at-preserved c).After-take_road-x in
+    let (d, e) = accepted_there _ (sym (ap taken said) ∙ sym c.take_road-x.ensures.answer ∙ c.in_default.is) in
     let size = flat_length road_numbers 4 road_four_numbers u.before in
     let place : 4 * c.loop-at.n ≡ length (flat_map road_numbers u.before) = omega (arith, size, u.count) in
     let put =
-    c.take_road-x.ensures.left ∙ ap (λ (x : Judged Road). stored road_numbers (4 * c.loop-at.n) x c.loop-at.roads) (judged (goal.at.loop-at-preserved c).After-take_road-x ∙ e)
+    c.take_road-x.ensures.left ∙ ap (λ (x : Judged Road). stored road_numbers (4 * c.loop-at.n) x c.loop-at.roads) (said ∙ e)
     ∙ ap (λ (i : ℕ). sets c.loop-at.roads i (road_numbers d)) place in
     let few = road_fits u.before _ d e in
     let row = c.first_record-row.ensures ∙ ap first_record (rest_is t c.loop-at.at) in (
@@ -99,7 +88,7 @@ loop-at-preserved c =
       c.take_road-x.auto.roads ∙ c.loop-at.invariant.1,
       c.take_road-x.auto.heads ∙ c.loop-at.invariant.2,
       c.take_road-x.auto.nexts ∙ c.loop-at.invariant.3,
-      c.take_road-x.ensures.index d (judged (goal.at.loop-at-preserved c).After-take_road-x ∙ e),
+      c.take_road-x.ensures.index d (said ∙ e),
       taken_row road road_numbers _ t _ c.loop-at.roads _ c.loop-at.at c.loop-at.n u c.loop-at-test.true _ row d e
           (omega (arith, size, few, road_four_numbers d, c.requires.in_bounds.0)) put,
     )
