@@ -3,7 +3,7 @@
 use Rattle.std.specs.Prelude.{List, [], ◌∷◌}
 use Rattle.floor.specs.Examples.{a_to_b, by_road, ring_of_three, apart, twice_entered, crossing}
 use Rattle.schedule.specs.Book.{◌at◌}
-use Rattle.rows.specs.Row.{load, table_refused, record-refused, events, bounded, time_of, Row, ◌is◌, times_from}
+use Rattle.rows.specs.Row.{load, table_refused, record_refused, events, bounded, time_of, Row, ◌is◌, times_from}
 
 -- the rows not marked
 unfoldable pub further : List Row
@@ -12,7 +12,7 @@ further =
     record {
       tables = by_road "0,1,1000000,500000";
       reports = [];
-      facts = (load is 2) ∷ (table_refused is 1) ∷ (record-refused is 1) ∷ [];
+      facts = (load is 2) ∷ (table_refused is 1) ∷ (record_refused is 1) ∷ [];
     }
     ∷ record { tables = by_road "0,1,1000000,499999"; reports = []; facts = (load is 0) ∷ [] }
     -- "Three carts, each moving to the next cell of a triangle of roads in one step: accepted."

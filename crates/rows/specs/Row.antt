@@ -20,9 +20,9 @@ use Rattle.hegtalim.specs.Outcomes.{book_answer}
 -- report (0: taken); whether no times exist (13, else 0); the passes; the time of an event; whether a list of items is a chain (1)
 -- or not (0); what items cost, added, without the sign
 pub data Question : Type 0 where
-  load table_refused record-refused events bounded last-report timed passes : Question
+  load table_refused record_refused events bounded last_report timed passes : Question
   time_of : ℕ → Question
-  chain cost-of : List Item → Question
+  chain cost_of : List Item → Question
 
 -- a question, and the document's answer
 pub record Fact : Type 0 where
@@ -70,29 +70,29 @@ size (some ls) = nat_abs (cost ls)
 unfoldable pub reply : Plan → Progress → Option Timetable → Question → ℕ
 reply p g t load = 0
 reply p g t table_refused = 0
-reply p g t record-refused = 0
+reply p g t record_refused = 0
 reply p g t events = event_count p
 reply p g t bounded = length (bounds p)
-reply p g t last-report = g.answer.refusal
+reply p g t last_report = g.answer.refusal
 reply p g t timed = is_timed t
 reply p g t passes = passes_of t
 reply p g t (time_of e) = time_at e t
 reply p g t (chain is) = cond (is_chain p g.book is) 1 0
-reply p g t (cost-of is) = size (legs (numbered_bounds p g.book) is)
+reply p g t (cost_of is) = size (legs (numbered_bounds p g.book) is)
 
 -- and of a refused one: nothing but the refusal can be asked
 unfoldable pub refused_reply : Answer → Question → ℕ
 refused_reply a load = a.refusal
 refused_reply a table_refused = a.table
-refused_reply a record-refused = a.value
+refused_reply a record_refused = a.value
 refused_reply a events = 0
 refused_reply a bounded = 0
-refused_reply a last-report = 0
+refused_reply a last_report = 0
 refused_reply a timed = 0
 refused_reply a passes = 0
 refused_reply a (time_of e) = 0
 refused_reply a (chain is) = 0
-refused_reply a (cost-of is) = 0
+refused_reply a (cost_of is) = 0
 
 -- by the timetable given
 unfoldable pub replies : (Plan → Book → Option Timetable) → Row → List ℕ

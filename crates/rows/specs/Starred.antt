@@ -4,7 +4,7 @@ use Rattle.std.specs.Prelude.{ℕ, List, [], ◌∷◌, ◌++◌}
 use Rattle.floor.specs.Examples.{the_pair, on_ab, a_to_b}
 use Rattle.schedule.specs.Book.{◌at◌}
 use Rattle.schedule.specs.Chain.{Item, onward, back}
-use Rattle.rows.specs.Row.{load, table_refused, record-refused, events, bounded, last-report, timed, passes, time_of, chain, cost-of, Row, ◌is◌, times_from}
+use Rattle.rows.specs.Row.{load, table_refused, record_refused, events, bounded, last_report, timed, passes, time_of, chain, cost_of, Row, ◌is◌, times_from}
 
 -- items that go onward, by their bounds' numbers
 unfoldable pub onwards : List ℕ → List Item
@@ -52,9 +52,9 @@ starred =
     -- "Cart 1 slowest 87,489: accepted."
     ∷ record { tables = the_pair "250000,87489"; reports = []; facts = (load is 0) ∷ (timed is 0) ∷ [] }
     -- "87,490: refusal 13 (19,999 against 20,000)."
-    ∷ record { tables = the_pair "250000,87490"; reports = []; facts = (load is 0) ∷ (timed is 13) ∷ (chain (slowest_to_c ++ fastest_from_c) is 1) ∷ (cost-of slowest_to_c is 19999) ∷ (cost-of fastest_from_c is 20000) ∷ [] }
+    ∷ record { tables = the_pair "250000,87490"; reports = []; facts = (load is 0) ∷ (timed is 13) ∷ (chain (slowest_to_c ++ fastest_from_c) is 1) ∷ (cost_of slowest_to_c is 19999) ∷ (cost_of fastest_from_c is 20000) ∷ [] }
     -- "One cart, fastest and slowest 300,000, path A B: 13, as lo 834 exceeds hi 833."
-    ∷ record { tables = a_to_b "300000,300000"; reports = []; facts = (load is 0) ∷ (timed is 13) ∷ (chain too_even is 1) ∷ (cost-of (onwards (1 ∷ [])) is 833) ∷ (cost-of (backwards (1 ∷ [])) is 834) ∷ [] }
+    ∷ record { tables = a_to_b "300000,300000"; reports = []; facts = (load is 0) ∷ (timed is 13) ∷ (chain too_even is 1) ∷ (cost_of (onwards (1 ∷ [])) is 833) ∷ (cost_of (backwards (1 ∷ [])) is 834) ∷ [] }
     -- "One cart, path A: times 0, 0, 0; two passes."
     ∷ record {
       tables = on_ab ("250000," ∷ []) ("0" ∷ []);
@@ -65,32 +65,32 @@ starred =
     ∷ record {
       tables = on_ab ("250000," ∷ "250000," ∷ []) ("0,1" ∷ "1,0" ∷ []);
       reports = [];
-      facts = (load is 9) ∷ (table_refused is 3) ∷ (record-refused is 2) ∷ [];
+      facts = (load is 9) ∷ (table_refused is 3) ∷ (record_refused is 2) ∷ [];
     }
     -- "Paths A and A: 8."
     ∷ record {
       tables = on_ab ("250000," ∷ "250000," ∷ []) ("0" ∷ "0" ∷ []);
       reports = [];
-      facts = (load is 8) ∷ (table_refused is 3) ∷ (record-refused is 2) ∷ [];
+      facts = (load is 8) ∷ (table_refused is 3) ∷ (record_refused is 2) ∷ [];
     }
     -- "One cart, 250,000, path A B, event 2 reported at 1500: events 3, 4, 5 at 3500, 4500, 4500."
     ∷ record {
       tables = a_to_b "250000,";
       reports = (1 at 1500) ∷ [];
-      facts = (last-report is 0) ∷ times_from 2 (1500 ∷ 3500 ∷ 4500 ∷ 4500 ∷ []);
+      facts = (last_report is 0) ∷ times_from 2 (1500 ∷ 3500 ∷ 4500 ∷ 4500 ∷ []);
     }
     -- "Reported at 500: the report is taken, the timetable is 13."
     ∷ record {
       tables = a_to_b "250000,";
       reports = (1 at 500) ∷ [];
-      facts = (last-report is 0) ∷ (timed is 13) ∷ (chain too_early is 1) ∷ [];
+      facts = (last_report is 0) ∷ (timed is 13) ∷ (chain too_early is 1) ∷ [];
     }
     -- "Then a report at 499: 12; at 500: taken."
-    ∷ record { tables = a_to_b "250000,"; reports = (1 at 500) ∷ (1 at 499) ∷ []; facts = (last-report is 12) ∷ [] }
+    ∷ record { tables = a_to_b "250000,"; reports = (1 at 500) ∷ (1 at 499) ∷ []; facts = (last_report is 12) ∷ [] }
     ∷ record {
       tables = a_to_b "250000,";
       reports = (1 at 500) ∷ (1 at 499) ∷ (1 at 500) ∷ [];
-      facts = (last-report is 0) ∷ [];
+      facts = (last_report is 0) ∷ [];
     }
     ∷ []
 
