@@ -8,12 +8,17 @@ below() { # CRATE
     sed -n -E "s/^$1( staticlib)?: *//p" crates.txt
 }
 
-# the words for the kit's rattle, run in the folder of a library or of a copy of it, over the libraries of the crates below it that rt has left in out/
+# the words for the kit's rattle, run in the folder of a library or of a copy of it, over the libraries of the crates below it: those that rt has left in out/,
+# and the kit's own
 crate_words() { # CRATE
     local name
     printf '%s\n' --crate-name "$1" src/lib.rt --extern "std=$kit/rlibs/std.rlib" -L "dependency=$kit/rlibs"
     for name in $(below "$1"); do
-        printf '%s\n' --extern "$name=$PWD/crates/$name/out/rlib/$name.rlib" -L "dependency=$PWD/crates/$name/out/rlib"
+        if [ -d "crates/$name" ]; then
+            printf '%s\n' --extern "$name=$PWD/crates/$name/out/rlib/$name.rlib" -L "dependency=$PWD/crates/$name/out/rlib"
+        else
+            printf '%s\n' --extern "$name=$kit/rlibs/$name.rlib"
+        fi
     done
     printf '%s\n' --antt-project "$kit/rattle/logic/antt-project.json" --logic-built "$kit/logic_built" --links "$1="
 }

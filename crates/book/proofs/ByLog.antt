@@ -1,4 +1,5 @@
 -- The bounds that a book adds, by the log that gives it: each cart's times are the log's, in their order. Assumes nothing.
+use Rattle.std.specs.Prelude.{Some}
 use Prim.Native.Nat.{ℕ, suc, ◌+◌, ◌-◌, ◌≤◌, ◌<◌}
 use native.Mathlib.Omega.{arith}
 use native.Mathlib.Decide.{ℕ_discrete}
@@ -7,11 +8,12 @@ use mathlib.Core.Logic.{⊎_elim}
 use mathlib.Core.Bool.{Bool, true, false, cond}
 use mathlib.Core.List.Memᴰ
 use mathlib.Core.List.{List, [], ◌∷◌, ◌++◌, map, tail, flat_map, append_assoc, append-nil, Memᴰ}
-use mathlib.Core.Option.{some, some-injective}
 use lib.Dec.{eqb}
 use lib.ListN.{length, get_or, take, drop, set}
 use borrow.Author.Tests.{eq-eqb, ne_eqb}
-use Rattle.floor.specs.Plan.{Cart, Plan}
+use Rattle.laws.proofs.Options.{some-injective}
+use Rattle.floor.specs.Plan.{Plan}
+use Rattle.floor.specs.declared.Cart.{Cart}
 use Rattle.network.specs.Events.{Point, places, visits_of, points, Route, routes, routes_of, route_points, route_events}
 use Rattle.network.specs.Bounds.{Bound}
 use Rattle.schedule.specs.Book.{Report, Book, first_book, passed_by, pass_next, replay, passed_at, route_passed, route_to_pass, by_cart}
@@ -75,7 +77,7 @@ logged_one r rs j (ts ∷ tss) h = by (ℕ_discrete r.cart j) (λ l. logged_one 
         far n = omega (arith, later n)
 
 -- so the times of a book are those of the log that leads to it
-replay_logged : (p : Plan) (b c : Book) (log : List Report) → replay p b log ≡ some c → c.passed ≡ logged log 1 b.passed
+replay_logged : (p : Plan) (b c : Book) (log : List Report) → replay p b log ≡ Some c → c.passed ≡ logged log 1 b.passed
 unfolding replay pass_next passed_by
 replay_logged p b c [] e = ap (λ (x : Book). x.passed) (sym (some-injective _ _ e)) ∙ sym (logged_none 1 b.passed)
 replay_logged p b c (r ∷ rs) e =
@@ -152,7 +154,7 @@ along_are clock log (c ∷ cs) (p ∷ ps) j e h =
     ∙ ap (added_along clock log j e) (sym next)
 
 -- of a plan with the book of its log
-pub added_are : (p : Plan) (carts : ℕ) (firsts : List ℕ) → Firsts p carts firsts → (log : List Report) (b : Book) → replay p (first_book p) log ≡ some b
+pub added_are : (p : Plan) (carts : ℕ) (firsts : List ℕ) → Firsts p carts firsts → (log : List Report) (b : Book) → replay p (first_book p) log ≡ Some b
     → added_bounds p b ≡ added_along b.clock log 1 (get_or firsts 0 0) (take carts (drop 1 firsts))
 unfolding added_bounds first_book routes_of
 added_are p carts firsts f log b e =
@@ -172,7 +174,7 @@ added_are p carts firsts f log b e =
 -- ---- the times of the log
 
 -- each is the time of a point passed, and so no later than 10^12
-pub times_most : (p : Plan) (b c : Book) (log : List Report) → replay p b log ≡ some c → (j t : ℕ) → Memᴰ t (times_of j log) → t ≤ 1_000_000_000_000
+pub times_most : (p : Plan) (b c : Book) (log : List Report) → replay p b log ≡ Some c → (j t : ℕ) → Memᴰ t (times_of j log) → t ≤ 1_000_000_000_000
 unfolding times_of replay
 times_most p b c [] e j t m = absurd (Memᴰ.not-nil m)
 times_most p b c (r ∷ rs) e j t m =

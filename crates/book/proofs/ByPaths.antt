@@ -1,10 +1,10 @@
 -- A book and the bounds that it adds go by a plan's paths alone: of its carts they ask only how many there are. Assumes nothing.
+use Rattle.std.specs.Prelude.{Option, None, Ok}
 use Prim.Native.Nat.{ℕ, suc, ◌+◌, ◌*◌, ◌-◌, ◌≤◌}
 use native.Mathlib.Omega.{arith}
 use mathlib.Core.Path.{◌≡◌, refl, ap, ap₂, sym, ◌∙◌, subst}
 use mathlib.Core.Bool.{Bool, true, false, ◌&&◌, cond}
 use mathlib.Core.List.{List, [], ◌∷◌, ◌++◌, map, Memᴰ}
-use mathlib.Core.Option.{Option, none}
 use lib.Dec.{T, leb, ltb}
 use lib.ListN.{length, get_or}
 use mir.Facts.{and_yes}
@@ -12,8 +12,8 @@ use borrow.Author.Tests.{le-leb}
 use Rattle.laws.proofs.Tests.{passes}
 use Rattle.words.specs.Words.{padded}
 use Rattle.words.proofs.Padding.{padded_length}
-use Rattle.floor.specs.Refusal.{accepted}
-use Rattle.floor.specs.Plan.{Cart, Plan}
+use Rattle.floor.specs.Plan.{Plan}
+use Rattle.floor.specs.declared.Cart.{Cart}
 use Rattle.floor.specs.Paths.{steps}
 use Rattle.floor.specs.Tables.{Tables, read_tables}
 use Rattle.floor.proofs.Accepted.{Sound, accepted_sound, Even, accepted_even}
@@ -101,7 +101,7 @@ module _ (p : Plan) (h : length p.carts ≡ length p.paths) where
   unfolding replay
   replay_by_paths b [] = refl
   replay_by_paths b (r ∷ log) =
-      ap₂ (λ (t : Bool) (o : Option Book). elim t [ true ↦ o | false ↦ none ]) (acceptable_by_paths b r) (replay_by_paths (pass_next b r) log)
+      ap₂ (λ (t : Bool) (o : Option Book). elim t [ true ↦ o | false ↦ None ]) (acceptable_by_paths b r) (replay_by_paths (pass_next b r) log)
 
   -- which adds the same bounds
   pub added_by_paths : (b : Book) → added_bounds p b ≡ added_bounds q b
@@ -122,7 +122,7 @@ some_step p h = by p.paths refl
         omega (arith, h.some_step q there, h.same_steps q there)
 
 -- its events are no more than may be
-pub events_kept_in : (ts : Tables) (p : Plan) → read_tables ts ≡ accepted p → limits_kept p ≡ true → (size : ℕ) → 8192 ≤ size
+pub events_kept_in : (ts : Tables) (p : Plan) → read_tables ts ≡ Ok p → limits_kept p ≡ true → (size : ℕ) → 8192 ≤ size
     → (events_kept (length p.carts) (steps p.paths) (padded size (path_cells p.paths)) ≡ true)
     × (paths_in (length p.carts) (steps p.paths) (padded size (path_cells p.paths)) ≡ p.paths)
 unfolding events_kept limits_kept
@@ -149,12 +149,12 @@ events_kept_in ts p e kept size h =
     )
 
 -- so the book that a log gives over them is the plan's own
-pub log_book_is : (ts : Tables) (p : Plan) → read_tables ts ≡ accepted p → limits_kept p ≡ true → (size : ℕ) → 8192 ≤ size → (cs times : List ℕ)
+pub log_book_is : (ts : Tables) (p : Plan) → read_tables ts ≡ Ok p → limits_kept p ≡ true → (size : ℕ) → 8192 ≤ size → (cs times : List ℕ)
     → log_book (length p.carts) (steps p.paths) (padded size (path_cells p.paths)) cs times ≡ replay p (first_book p) (entries cs times)
 unfolding log_book
 log_book_is ts p e kept size h cs times =
     let (fit, held) = events_kept_in ts p e kept size h in
     let same : length p.carts ≡ length p.paths = sym (accepted_sound ts p e).path_each in
-    ap₂ {C = Option Book} (λ (b : Bool) (ps : List (List ℕ)). cond b (replay (of_paths ps) (first_book (of_paths ps)) (entries cs times)) none) fit held
+    ap₂ {C = Option Book} (λ (b : Bool) (ps : List (List ℕ)). cond b (replay (of_paths ps) (first_book (of_paths ps)) (entries cs times)) None) fit held
     ∙ ap (λ (b : Book). replay (of_paths p.paths) b (entries cs times)) (sym (first_by_paths p same))
     ∙ sym (replay_by_paths p same (first_book p) (entries cs times))

@@ -1,21 +1,22 @@
 -- The bounds of a cart's reports, and of its events still to be passed, one after the other. Assumes nothing.
+use Rattle.std.proofs.lemmas.Bool.Decides.{nat_tests}
+use Rattle.std.specs.Prelude.{Option, None, Some}
 use Prim.Native.Nat.{ℕ, zero, suc, ◌+◌, ◌*◌, ◌-◌, ◌≤◌, ◌<◌}
-use native.Mathlib.Numerals.{add-one}
 use native.Mathlib.Omega.{arith}
 use native.Mathlib.Decide.{ℕ_discrete}
 use mathlib.Core.Path.{◌≡◌, refl, ap, sym, ◌∙◌, subst}
 use mathlib.Core.Logic.{◌⊎◌, inl, inr}
 use mathlib.Core.Bool.{Bool, true, false, ◌&&◌, cond}
-use mathlib.Core.List.{List, [], ◌∷◌, ◌++◌, flat_map, Memᴰ}
+use mathlib.Core.List.{List, [], ◌∷◌, ◌++◌, Memᴰ}
 use lib.Dec.{eqb, ltb}
 use borrow.Author.Tests.{lt-ltb, le-ltb, eq-eqb, ne_eqb}
-use lib.ListN.{length, get_or, drop, length-append, drop_of_length-le}
-use lib.Seq.{sets, length-sets}
+use lib.ListN.{length, get_or, drop, drop_of_length-le}
 use Rattle.laws.proofs.Tests.{below_or_not}
 use Rattle.words.specs.Words.{word_at}
 use Rattle.network.specs.Bounds.{Bound}
-use Rattle.network.specs.BoundArrays.{bound_ends, hi_number, bound_range}
-use Rattle.network.proofs.BoundStores.{by_ends, by_range, more_stored, none_stored}
+use Rattle.network.specs.declared.BoundArrays.{BoundArrays}
+use Rattle.network.specs.BoundArrays.{hi_kept, bound_of, Puts}
+use Rattle.network.proofs.Putting.{kept_hi, Putting, putting_first, putting_more}
 use Rattle.schedule.specs.Added.{reported_bound, clock_bound}
 use Rattle.book.specs.Log.{entries}
 use Rattle.book.specs.Replaying.{times_of}
@@ -27,9 +28,7 @@ use Rattle.book.proofs.Replays.{entry_at}
 -- the event at hand, and those after it
 pub waiting_next : (clock e next : ℕ) → e < next → waiting_from clock e (next - e) ≡ clock_bound clock e ∷ waiting_from clock (e + 1) (next - (e + 1))
 unfolding waiting_from
-waiting_next clock e next h =
-    let m : next - e ≡ suc (next - (e + 1)) = omega arith in
-    ap (waiting_from clock e) m ∙ ap (λ (n : ℕ). clock_bound clock e ∷ waiting_from clock n (next - (e + 1))) (sym (add-one e))
+waiting_next clock e next h = grind (arith, nat_tests)
 
 -- none is left
 pub waiting_none : (clock e next : ℕ) → next ≤ e → waiting_from clock e (next - e) ≡ []
@@ -53,10 +52,7 @@ reported_none e (suc n) = refl
 reported_next : (e next u : ℕ) (us : List ℕ) → e < next
     → reported_from e (next - e) (u ∷ us) ≡ reported_bound (record { event = e; time = u }) ∷ reported_from (e + 1) (next - (e + 1)) us
 unfolding reported_from
-reported_next e next u us h =
-    let m : next - e ≡ suc (next - (e + 1)) = omega arith in
-    ap (λ (n : ℕ). reported_from e n (u ∷ us)) m
-    ∙ ap (λ (n : ℕ). reported_bound (record { event = e; time = u }) ∷ reported_from n (next - (e + 1)) us) (sym (add-one e))
+reported_next e next u us h = grind (arith, nat_tests)
 
 module _ (log times : List ℕ) (c i : ℕ) (l : i < length log) where
   -- the times of cart c from the i-th report on
@@ -161,113 +157,55 @@ pub times_none : (log times : List ℕ) (c i : ℕ) → length log ≤ i → tim
 unfolding times_of entries
 times_none log times c i h = ap (λ (l : List ℕ). times_of c (entries l (drop (8 * i) times))) (drop_of_length-le log {i = i} h)
 
--- ---- bounds still to be put in two arrays, behind those that are
+-- ---- bounds put
 
--- what stands there once they are put: the arrays were s and r at first and are t and u
-pub record Putting (s r t u : List ℕ) (k j : ℕ) (whole rest : List Bound) : Type 0 where
-  pub ends : sets t (2 * j) (flat_map bound_ends rest) ≡ sets s (2 * k) (flat_map bound_ends whole)
-  pub ranges : sets u (2 * j) (flat_map bound_range rest) ≡ sets r (2 * k) (flat_map bound_range whole)
+-- a report's bound as it is put
+pub report_put : (e t : ℕ) → t ≤ 1_000_000_000_000 → bound_of 0 e t (Some t) ≡ reported_bound (record { event = e; time = t })
+unfolding reported_bound
+report_put e t h = ap (λ (x : Option ℕ). record { from = 0; to = e; lo = t; hi = x }) (kept_hi t (omega arith))
 
--- none is put yet
-pub put_none : (s r : List ℕ) (k j : ℕ) (whole rest : List Bound) → j ≡ k → rest ≡ whole → Putting s r s r k j whole rest
-put_none s r k j whole rest e q =
-    record {
-      ends = ap (λ (n : ℕ). sets s (2 * n) (flat_map bound_ends rest)) e ∙ ap (λ (l : List Bound). sets s (2 * k) (flat_map bound_ends l)) q;
-      ranges = ap (λ (n : ℕ). sets r (2 * n) (flat_map bound_range rest)) e ∙ ap (λ (l : List Bound). sets r (2 * k) (flat_map bound_range l)) q;
-    }
-
-module _ (s r t u : List ℕ) (k j : ℕ) (whole rest : List Bound) (w : Putting s r t u k j whole rest) where
-  -- no store changes a length
-  pub put_long : (length t ≡ length s) × (length u ≡ length r)
-  put_long = (
-    sym (length-sets t (2 * j) (flat_map bound_ends rest)) ∙ ap length w.ends ∙ length-sets s (2 * k) (flat_map bound_ends whole),
-    sym (length-sets u (2 * j) (flat_map bound_range rest)) ∙ ap length w.ranges ∙ length-sets r (2 * k) (flat_map bound_range whole),
-  )
-
-  -- some of them are put
-  pub put_more : (bs more : List Bound) → rest ≡ bs ++ more → (j' : ℕ) → j' ≡ j + length bs
-      → (t' u' : List ℕ) → t' ≡ sets t (2 * j) (flat_map bound_ends bs) → u' ≡ sets u (2 * j) (flat_map bound_range bs)
-      → Putting s r t' u' k j' whole more
-  put_more bs more e j' next t' u' p q =
-      record {
-        ends = more_stored bound_ends by_ends t t' j j' bs more next p ∙ ap (λ (l : List Bound). sets t (2 * j) (flat_map bound_ends l)) (sym e) ∙ w.ends;
-        ranges = more_stored bound_range by_range u u' j j' bs more next q ∙ ap (λ (l : List Bound). sets u (2 * j) (flat_map bound_range l)) (sym e) ∙ w.ranges;
-      }
-
-  -- all are put
-  pub put_all : rest ≡ [] → (t ≡ sets s (2 * k) (flat_map bound_ends whole)) × (u ≡ sets r (2 * k) (flat_map bound_range whole))
-  unfolding flat_map
-  put_all e = (
-    ap (λ (l : List Bound). sets t (2 * j) (flat_map bound_ends l)) (sym e) ∙ w.ends,
-    ap (λ (l : List Bound). sets u (2 * j) (flat_map bound_range l)) (sym e) ∙ w.ranges,
-  )
-
--- ---- one report put
-
--- nothing is put
-pub report_none : (s r : List ℕ) (k : ℕ) (bs : List Bound) → bs ≡ []
-    → (0 ≡ length bs) × ((s ≡ sets s (2 * k) (flat_map bound_ends bs)) × (r ≡ sets r (2 * k) (flat_map bound_range bs)))
-report_none s r k bs e = (sym (ap length e), (none_stored bound_ends s (2 * k) bs e, none_stored bound_range r (2 * k) bs e))
-
--- one bound is put
-pub report_one : (s r s' r' : List ℕ) (k e t : ℕ) (bs : List Bound) → bs ≡ reported_bound (record { event = e; time = t }) ∷ []
-    → s' ≡ sets s (2 * k) (0 ∷ e ∷ []) → r' ≡ sets r (2 * k) (t ∷ (t + 1) ∷ [])
-    → (1 ≡ length bs) × ((s' ≡ sets s (2 * k) (flat_map bound_ends bs)) × (r' ≡ sets r (2 * k) (flat_map bound_range bs)))
-unfolding flat_map bound_ends bound_range reported_bound hi_number
-report_one s r s' r' k e t bs q a b = (
-  sym (ap length q),
-  (
-    a ∙ ap (λ (l : List Bound). sets s (2 * k) (flat_map bound_ends l)) (sym q),
-    b ∙ ap (λ (n : ℕ). sets r (2 * k) (t ∷ n ∷ [])) (add-one t) ∙ ap (λ (l : List Bound). sets r (2 * k) (flat_map bound_range l)) (sym q),
-  ),
-)
+-- that of an event still to be passed
+pub clock_put : (clock e : ℕ) → bound_of 0 e clock None ≡ clock_bound clock e
+unfolding hi_kept clock_bound
+clock_put clock e = refl
 
 -- ---- a log's reports of a cart put, one after the other
 
 -- before the i-th report: n bounds are put
-pub record Reporting (log times : List ℕ) (c e next k : ℕ) (s r t u : List ℕ) (n i : ℕ) : Type 0 where
+pub record Reporting (log times : List ℕ) (c e next k : ℕ) (a b : BoundArrays) (n i : ℕ) : Type 0 where
   pub within : n ≤ next - e
-  pub counted : n + length (reported_from (e + n) (next - (e + n)) (times_of c (entries (drop i log) (drop (8 * i) times))))
-      ≡ length (reported_from e (next - e) (times_of c (entries log times)))
-  pub putting : Putting s r t u k (k + n) (reported_from e (next - e) (times_of c (entries log times)))
+  pub putting : Putting a b k (k + n) (reported_from e (next - e) (times_of c (entries log times)))
       (reported_from (e + n) (next - (e + n)) (times_of c (entries (drop i log) (drop (8 * i) times))))
   pub in_range : (x : ℕ) → Memᴰ x (times_of c (entries (drop i log) (drop (8 * i) times))) → x ≤ 1_000_000_000_000
 
-module _ (log times : List ℕ) (c e next k : ℕ) (s r : List ℕ) where
+module _ (log times : List ℕ) (c e next k : ℕ) (a : BoundArrays) where
   -- none is put yet
-  pub first_reporting : ((x : ℕ) → Memᴰ x (times_of c (entries log times)) → x ≤ 1_000_000_000_000) → Reporting log times c e next k s r s r 0 0
+  pub first_reporting : ((x : ℕ) → Memᴰ x (times_of c (entries log times)) → x ≤ 1_000_000_000_000) → Reporting log times c e next k a a 0 0
   first_reporting h =
       let z : e + 0 ≡ e = omega arith in
-      let same : reported_from (e + 0) (next - (e + 0)) (times_of c (entries log times)) ≡ reported_from e (next - e) (times_of c (entries log times)) =
-      ap (λ (m : ℕ). reported_from m (next - m) (times_of c (entries log times))) z in
-      record { within = omega arith; counted = omega (arith, ap length same); putting = put_none s r k (k + 0) _ _ (omega arith) same; in_range = h }
+      record {
+        within = omega arith;
+        putting = putting_first a k (k + 0) _ _ (omega arith) (ap (λ (m : ℕ). reported_from m (next - m) (times_of c (entries log times))) z);
+        in_range = h;
+      }
 
-  module _ (t u : List ℕ) (n i : ℕ) (w : Reporting log times c e next k s r t u n i) where
+  module _ (b : BoundArrays) (n i : ℕ) (w : Reporting log times c e next k a b n i) where
     -- the i-th is put, or passed over
-    pub next_reporting : i < length log → (m : ℕ) → m ≡ length (one_reported log times i c (e + n) next) → (t' u' : List ℕ)
-        → t' ≡ sets t (2 * (k + n)) (flat_map bound_ends (one_reported log times i c (e + n) next))
-        → u' ≡ sets u (2 * (k + n)) (flat_map bound_range (one_reported log times i c (e + n) next))
-        → Reporting log times c e next k s r t' u' (n + m) (i + 1)
-    next_reporting l m q t' u' a b =
+    pub next_reporting : i < length log → (m : ℕ) → m ≡ length (one_reported log times i c (e + n) next) → (b' : BoundArrays)
+        → Puts b b' (k + n) (one_reported log times i c (e + n) next) → (n' : ℕ) → n' ≡ n + m → Reporting log times c e next k a b' n' (i + 1)
+    next_reporting l m q b' p n' more =
         let one : List Bound = one_reported log times i c (e + n) next in
         let after : List ℕ = times_of c (entries (drop (i + 1) log) (drop (8 * (i + 1)) times)) in
         let far : e + n + m ≡ e + (n + m) = omega arith in
         let here : reported_from (e + n) (next - (e + n)) (times_of c (entries (drop i log) (drop (8 * i) times))) ≡ one ++ reported_from (e + (n + m)) (next - (e + (n + m))) after =
         reported_here log times c i l (e + n) next m q ∙ ap (λ (x : ℕ). one ++ reported_from x (next - x) after) far in
-        record {
+        subst (λ (x : ℕ). Reporting log times c e next k a b' x (i + 1)) (sym more)
+        (record {
           within = omega (arith, w.within, one_most log times c i l (e + n) next);
-          counted = omega (arith, w.counted, ap length here, length-append one (reported_from (e + (n + m)) (next - (e + (n + m))) after));
-          putting = put_more s r t u k (k + n) _ _ w.putting one (reported_from (e + (n + m)) (next - (e + (n + m))) after) here (k + (n + m)) (omega arith) t' u' a b;
+          putting = putting_more w.putting b' (k + (n + m)) one (reported_from (e + (n + m)) (next - (e + (n + m))) after) here p (omega arith);
           in_range = after_most log times c i l w.in_range;
-        }
+        })
 
-    -- all are put
-    pub last_reporting : length log ≤ i
-        → (n ≡ length (reported_from e (next - e) (times_of c (entries log times))))
-        × ((t ≡ sets s (2 * k) (flat_map bound_ends (reported_from e (next - e) (times_of c (entries log times)))))
-        × (u ≡ sets r (2 * k) (flat_map bound_range (reported_from e (next - e) (times_of c (entries log times))))))
-    last_reporting h =
-        let none_left : reported_from (e + n) (next - (e + n)) (times_of c (entries (drop i log) (drop (8 * i) times))) ≡ [] =
-        ap (reported_from (e + n) (next - (e + n))) (times_none log times c i h) ∙ reported_none (e + n) (next - (e + n)) in
-        let all = put_all s r t u k (k + n) _ _ w.putting none_left in
-        (omega (arith, w.counted, ap length none_left), all)
+    -- nothing is left to put
+    pub last_reporting : length log ≤ i → reported_from (e + n) (next - (e + n)) (times_of c (entries (drop i log) (drop (8 * i) times))) ≡ []
+    last_reporting h = ap (reported_from (e + n) (next - (e + n))) (times_none log times c i h) ∙ reported_none (e + n) (next - (e + n))

@@ -5,7 +5,8 @@ use mathlib.Core.Path.{◌≡◌, refl, ap, sym, ◌∙◌, subst}
 use mathlib.Core.List.{List, [], ◌∷◌, ◌++◌, map, flat_map, Memᴰ}
 use lib.ListN.{length, get_or, drop, length-append}
 use lib.Seq.{get_or-take}
-use Rattle.floor.specs.Plan.{Cart, Plan}
+use Rattle.floor.specs.Plan.{Plan}
+use Rattle.floor.specs.declared.Cart.{Cart}
 use Rattle.network.specs.Events.{visits_of, points, Route, routes, routes_of, route_points, event_count, finish_event}
 use Rattle.network.proofs.Routes.{event_count_is}
 use Rattle.limits.specs.Orders.{first_events}

@@ -1,13 +1,15 @@
 -- A book by its log: the times that a log has of each cart, and what a replay answers.
 -- Assumes nothing.
-use Rattle.std.specs.Prelude.{ℕ, suc, ◌+◌, ◌-◌, ◌≤◌, ◌<◌, ◌≡◌, Bool, ◌&&◌, cond, leb, ltb, eqb, length, get_or, take}
+use Rattle.std.specs.Prelude.{ℕ, suc, ◌+◌, ◌-◌, ◌≤◌, ◌<◌, ◌≡◌, Bool, ◌&&◌, cond, leb, ltb, eqb, length, get_or, take, Some}
 use mathlib.Core.List.{List, [], ◌∷◌, Memᴰ}
-use Rattle.std.proofs.Math.Option.{Option, none, some}
 use Rattle.floor.specs.Plan.{Plan}
 use Rattle.network.specs.Events.{Route, routes_of, route_points, event_count}
 use Rattle.limits.specs.Orders.{first_events}
-use Rattle.schedule.specs.Book.{Report, Book}
-use Rattle.book.specs.declared.Replayed.{Replayed}
+use Rattle.schedule.specs.Book.{Report, Book, first_book, replay}
+use Rattle.collisions.specs.declared.Paths.{Paths}
+use Rattle.limits.specs.OfPaths.{plan_of}
+use Rattle.book.specs.declared.Log.{Log}
+use Rattle.book.specs.Log.{log_of, book_of}
 
 -- the times that a log has of a cart
 unfoldable pub times_of : ℕ → List Report → List ℕ
@@ -39,12 +41,23 @@ pub record Counted (b : Book) (carts : ℕ) (counts : List ℕ) : Type 0 where
   pub counted : (j : ℕ) → j < carts → get_or counts j 0 ≡ length (get_or b.passed j [])
   pub carts_are : length b.passed ≡ carts
 
--- what a replay answers: the clock
-unfoldable pub replayed : Option Book → Replayed
-replayed none = Replayed.NoBook
-replayed (some b) = Replayed.Clock b.clock
+-- the book that reports lead to from the first one, as code keeps it
+pub record Replayed (p : Plan) (rs : List Report) (carts : ℕ) (counts : List ℕ) (clock : ℕ) : Type 0 where
+  pub book : Book
+  pub replays : replay p (first_book p) rs ≡ Some book
+  pub clock_is : book.clock ≡ clock
+  pub counted : Counted book carts counts
+
+-- what is kept of the book that a log gives: the numbers of its carts' first events, the counts of points and the clock
+pub record Holds (ps : Paths) (log : Log) (carts : ℕ) (firsts counts : List ℕ) (clock : ℕ) : Type 0 where
+  pub book : Book
+  pub given : book_of ps log ≡ Some book
+  pub replays : replay (plan_of ps) (first_book (plan_of ps)) (log_of log) ≡ Some book
+  pub clock_is : book.clock ≡ clock
+  pub firsts_are : Firsts (plan_of ps) carts firsts
+  pub counted : Counted book carts counts
 
 -- Names every definition of this module, for a proof that computes with them all.
 unfoldable pub open_replaying : Unit {0}
-unfolding times_of next_fits time_fits report_fits replayed
+unfolding times_of next_fits time_fits report_fits
 open_replaying = tt

@@ -1,9 +1,6 @@
-pub mod Stores
-pub mod Parts
 pub mod Links
 pub mod Moves
 pub mod Whole
-pub mod Fits
 pub mod Counted
 pub mod Written
 pub mod Outcome

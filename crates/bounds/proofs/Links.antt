@@ -1,25 +1,27 @@
 -- The roads gone through from the last to the first: what was met last is the first road that joins two cells. Where roads are linked by remainders, those of the
 -- cells' remainder give the same, so that no other need be looked at. Assumes nothing.
+use Rattle.std.specs.Prelude.{Option, None, Some, List, []}
 use Prim.Native.Nat.{ℕ, zero, suc, ◌+◌, ◌*◌, ◌-◌, ◌%◌, ◌≤◌, ◌<◌}
 use native.Mathlib.Nat.{add_comm}
 use native.Mathlib.Omega.{arith}
 use mathlib.Core.Path.{◌≡◌, refl, ap, ap₂, sym, ◌∙◌, subst}
 use mathlib.Core.Logic.{◌≢◌}
 use mathlib.Core.Bool.{Bool, true, false, cond}
-use mathlib.Core.List.{List, [], ◌∷◌}
-use mathlib.Core.Option
-use mathlib.Core.Option.{Option, none, some}
+use mathlib.Core.List.{◌∷◌}
 use lib.Dec.{eqb}
 use lib.ListN.{drop, get_or}
 use lib.Seq.{get_or-drop}
 use borrow.Author.Tests.{eqb-false}
-use Rattle.floor.specs.Plan.{Road, joins, road_between}
+use Rattle.floor.specs.Plan.{joins, road_between}
+use Rattle.floor.specs.declared.Road.{Road}
 use Rattle.tables.specs.Arrays.{roads_in}
 use Rattle.tables.specs.Index.{bucket, bucket_at, last_in, Indexed}
 use Rattle.tables.proofs.Indexes.{last_most, last_there}
 use Rattle.tables.proofs.Searches.{both_fail}
-use Rattle.bounds.specs.Writing.{road_of, road_found}
-use Rattle.bounds.proofs.Parts.{cells_of}
+
+-- the cells of a road alone
+abbrev pub cells_of : ℕ → ℕ → Road
+cells_of from to = record { from = from; to = to; length = 0; margin = 0 }
 
 -- ---- the first road that joins two cells
 
@@ -40,99 +42,45 @@ road_behind s i =
     ∙ ap₂ (λ (x y : ℕ). record { from = get_or s (4 * suc i) 0; to = get_or s (4 * suc i + 1) 0; length = x; margin = y })
     (get_or-drop 4 s (4 * i + 2) 0 ∙ ap (λ (m : ℕ). get_or s m 0) long) (get_or-drop 4 s (4 * i + 3) 0 ∙ ap (λ (m : ℕ). get_or s m 0) margin)
 
--- the first of these roads that joins a and b, or else d
-abbrev found_or : List Road → ℕ → ℕ → Road → Road
-found_or rs a b d = Option.get_or (road_between rs a b) d
+-- the first of these roads that joins a and b, or else what was met before
+pub found_or : List Road → ℕ → ℕ → Option Road → Option Road
+found_or [] a b d = d
+found_or (r ∷ rs) a b d = cond (joins a b r) (Some r) (found_or rs a b d)
 
--- it is the first of all, or one of the others
-found_cons : (r : Road) (rs : List Road) (a b : ℕ) (d : Road) → found_or (r ∷ rs) a b d ≡ cond (joins a b r) r (found_or rs a b d)
-unfolding road_between
-found_cons r rs a b d = by (joins a b r)
+-- it is what is asked for, where nothing was
+found_is : (rs : List Road) (a b : ℕ) → found_or rs a b None ≡ road_between rs a b
+unfolding found_or road_between
+found_is [] a b = refl
+found_is (r ∷ rs) a b = by (joins a b r) (found_is rs a b)
   where
-    by : (t : Bool) → Option.get_or (cond t (some r) (road_between rs a b)) d ≡ cond t r (found_or rs a b d)
-    by true = refl
-    by false = refl
+    by : (t : Bool) → found_or rs a b None ≡ road_between rs a b
+        → cond t (Some r) (found_or rs a b None) ≡ cond t (Some r) (road_between rs a b)
+    by true e = refl
+    by false e = e
 
 -- it is one of those before the last, or else the last
-found_last : (n : ℕ) (s : List ℕ) (a b : ℕ) (d : Road)
-    → found_or (roads_in (suc n) s) a b d ≡ found_or (roads_in n s) a b (cond (joins a b (road_at s n)) (road_at s n) d)
-unfolding roads_in road_between
-found_last zero s a b d = found_cons (road_at s 0) [] a b d
+found_last : (n : ℕ) (s : List ℕ) (a b : ℕ) (d : Option Road)
+    → found_or (roads_in (suc n) s) a b d ≡ found_or (roads_in n s) a b (cond (joins a b (road_at s n)) (Some (road_at s n)) d)
+unfolding roads_in found_or
+found_last zero s a b d = refl
 found_last (suc n) s a b d =
     let first : Road = road_at s 0 in
-    found_cons first (roads_in (suc n) (drop 4 s)) a b d
-    ∙ ap (cond (joins a b first) first)
-    (found_last n (drop 4 s) a b d ∙ ap (λ (r : Road). found_or (roads_in n (drop 4 s)) a b (cond (joins a b r) r d)) (road_behind s n))
-    ∙ sym (found_cons first (roads_in n (drop 4 s)) a b (cond (joins a b (road_at s (suc n))) (road_at s (suc n)) d))
+    ap (cond (joins a b first) (Some first))
+    (found_last n (drop 4 s) a b d ∙ ap (λ (r : Road). found_or (roads_in n (drop 4 s)) a b (cond (joins a b r) (Some r) d)) (road_behind s n))
 
 -- the last joins the cells
-last_here : (n : ℕ) (s : List ℕ) (a b : ℕ) (d : Road) → true ≡ joins a b (cells_of (get_or s (4 * n) 0) (get_or s (4 * n + 1) 0))
-    → found_or (roads_in (suc n) s) a b d ≡ found_or (roads_in n s) a b (road_at s n)
+last_here : (n : ℕ) (s : List ℕ) (a b : ℕ) (d : Option Road) → true ≡ joins a b (cells_of (get_or s (4 * n) 0) (get_or s (4 * n + 1) 0))
+    → found_or (roads_in (suc n) s) a b d ≡ found_or (roads_in n s) a b (Some (road_at s n))
 unfolding joins
-last_here n s a b d q = found_last n s a b d ∙ ap (λ (t : Bool). found_or (roads_in n s) a b (cond t (road_at s n) d)) (sym q)
+last_here n s a b d q =
+    found_last n s a b d ∙ ap (λ (t : Bool). found_or (roads_in n s) a b (cond t (Some (road_at s n)) d)) (sym q)
 
 -- or does not
-last_passed : (n : ℕ) (s : List ℕ) (a b : ℕ) (d : Road) → false ≡ joins a b (cells_of (get_or s (4 * n) 0) (get_or s (4 * n + 1) 0))
+last_passed : (n : ℕ) (s : List ℕ) (a b : ℕ) (d : Option Road) → false ≡ joins a b (cells_of (get_or s (4 * n) 0) (get_or s (4 * n + 1) 0))
     → found_or (roads_in (suc n) s) a b d ≡ found_or (roads_in n s) a b d
 unfolding joins
-last_passed n s a b d q = found_last n s a b d ∙ ap (λ (t : Bool). found_or (roads_in n s) a b (cond t (road_at s n) d)) (sym q)
-
--- ---- the way through all roads
-
--- what is asked of a road: its length and its margin
-abbrev asked : Road → Road
-asked d = road_of d.length d.margin
-
--- what stands in where none is found goes by them alone
-asked_or : (o : Option Road) (d e : Road) → asked d ≡ asked e → asked (Option.get_or o d) ≡ asked (Option.get_or o e)
-asked_or none d e h = h
-asked_or (some r) d e h = refl
-
-module _ (n : ℕ) (s : List ℕ) (a b : ℕ) where
-  -- what holds with so many roads left: the first that joins the cells is among them, or else it is as long as the road that was met last
-  abbrev pub Left : ℕ → ℕ → ℕ → Type 0
-  Left left long margin = (left ≤ n) × (asked (road_found (roads_in n s) a b) ≡ asked (found_or (roads_in left s) a b (road_of long margin)))
-
-  -- all are left
-  pub left_begins : Left n 0 0
-  unfolding road_found
-  left_begins = (omega arith, refl)
-
-  module _ (left long margin : ℕ) (w : Left left long margin) (some_left : 0 < left) where
-    -- the road at hand is the last of those left
-    at_hand : asked (road_found (roads_in n s) a b) ≡ asked (found_or (roads_in (suc (left - 1)) s) a b (road_of long margin))
-    at_hand = let one : left ≡ suc (left - 1) = omega arith in w.1 ∙ ap (λ (m : ℕ). asked (found_or (roads_in m s) a b (road_of long margin))) one
-
-    -- it joins the cells: its length and margin are taken
-    pub left_here : true ≡ joins a b (cells_of (get_or s (4 * (left - 1)) 0) (get_or s (4 * (left - 1) + 1) 0))
-        → (x y : ℕ) → x ≡ get_or s (4 * (left - 1) + 2) 0 → y ≡ get_or s (4 * (left - 1) + 3) 0 → Left (left - 1) x y
-    unfolding road_of
-    left_here q x y e f =
-        let same : asked (road_at s (left - 1)) ≡ asked (road_of x y) = ap₂ road_of (sym e) (sym f) in (
-          omega (arith, w.0),
-          at_hand
-              ∙ ap asked (last_here (left - 1) s a b (road_of long margin) q)
-              ∙ asked_or (road_between (roads_in (left - 1) s) a b) (road_at s (left - 1)) (road_of x y) same,
-        )
-
-    -- it does not, and what was taken stays
-    pub left_goes : false ≡ joins a b (cells_of (get_or s (4 * (left - 1)) 0) (get_or s (4 * (left - 1) + 1) 0))
-        → (x y : ℕ) → x ≡ long → y ≡ margin → Left (left - 1) x y
-    left_goes q x y e f = (
-      omega (arith, w.0),
-      at_hand
-          ∙ ap asked (last_passed (left - 1) s a b (road_of long margin) q)
-          ∙ ap₂ (λ (l m : ℕ). asked (found_or (roads_in (left - 1) s) a b (road_of l m))) (sym e) (sym f),
-    )
-
-  -- none is left
-  pub left_ends : (left long margin : ℕ) → Left left long margin → left ≤ 0
-      → (long ≡ (road_found (roads_in n s) a b).length) × (margin ≡ (road_found (roads_in n s) a b).margin)
-  unfolding road_of roads_in road_between
-  left_ends left long margin w h =
-      let none_left : left ≡ 0 = omega arith in
-      let e : asked (road_found (roads_in n s) a b) ≡ road_of long margin = w.1 ∙ ap (λ (m : ℕ). asked (found_or (roads_in m s) a b (road_of long margin))) none_left in
-      (ap (λ (d : Road). d.length) (sym e), ap (λ (d : Road). d.margin) (sym e))
+last_passed n s a b d q =
+    found_last n s a b d ∙ ap (λ (t : Bool). found_or (roads_in n s) a b (cond t (Some (road_at s n)) d)) (sym q)
 
 -- ---- remainders
 
@@ -145,7 +93,7 @@ joins_other x y a b h =
     rw (both_fail x y a b forth, both_fail x y b a back)
 
 -- so those after the last of the cells' remainder are passed over
-found_skip : (s : List ℕ) (a b : ℕ) (d : Road) (n : ℕ) → found_or (roads_in n s) a b d ≡ found_or (roads_in (last_in s (bucket a b) n) s) a b d
+found_skip : (s : List ℕ) (a b : ℕ) (d : Option Road) (n : ℕ) → found_or (roads_in n s) a b d ≡ found_or (roads_in (last_in s (bucket a b) n) s) a b d
 unfolding last_in bucket_at
 found_skip s a b d zero = refl
 found_skip s a b d (suc n) = by (eqb (bucket_at s n) (bucket a b)) refl (found_skip s a b d n)
@@ -155,36 +103,71 @@ found_skip s a b d (suc n) = by (eqb (bucket_at s n) (bucket a b)) refl (found_s
     by true e rest = refl
     by false e rest = last_passed n s a b d (joins_other _ _ a b (eqb-false (bucket_at s n) (bucket a b) e)) ∙ rest
 
--- ---- the way through the roads of a remainder
+-- ---- the way through the roads
+
+-- with so many roads left: the first that joins the cells is among them, or else it was met last; by the links the last of those left is one of the cells' remainder
+pub record Way (n : ℕ) (s : List ℕ) (a b : ℕ) (linked : Bool) (left : ℕ) (found : Option Road) : Type 0 where
+  pub few : left ≤ n
+  pub is : road_between (roads_in n s) a b ≡ found_or (roads_in left s) a b found
+  pub at_one : linked ≡ true → 0 < left → bucket_at s (left - 1) ≡ bucket a b
 
 module _ (n : ℕ) (s : List ℕ) (a b : ℕ) where
-  -- what holds besides where only those of the cells' remainder are met: the last of those left is one
-  abbrev pub Way : ℕ → ℕ → ℕ → Type 0
-  Way left long margin = Left n s a b left long margin × (0 < left → bucket_at s (left - 1) ≡ bucket a b)
+  -- all are left
+  pub way_begins : Way n s a b false n None
+  way_begins = record { few = omega arith; is = sym (found_is (roads_in n s) a b); at_one = λ e. absurd (cc) }
 
-  -- so it is at the last of the remainder among the first m
-  way_at : (m long margin : ℕ) → Left n s a b m long margin → Way (last_in s (bucket a b) m) long margin
-  way_at m long margin w = (
-    (omega (arith, last_most s (bucket a b) m, w.0), w.1 ∙ ap asked (found_skip s a b (road_of long margin) m)),
-    last_there s (bucket a b) m,
-  )
+  -- those of the remainder, where so many are left
+  way_at : (m : ℕ) (found : Option Road) → m ≤ n → road_between (roads_in n s) a b ≡ found_or (roads_in m s) a b found
+      → Way n s a b true (last_in s (bucket a b) m) found
+  way_at m found l e = record {
+    few = omega (arith, last_most s (bucket a b) m);
+    is = e ∙ found_skip s a b found m;
+    at_one = λ _. last_there s (bucket a b) m;
+  }
+
+  module _ (linked : Bool) (left : ℕ) (found : Option Road) (w : Way n s a b linked left found) (some_left : 0 < left) where
+    -- the road at hand is the last of those left
+    at_hand : road_between (roads_in n s) a b ≡ found_or (roads_in (suc (left - 1)) s) a b found
+    at_hand = let one : left ≡ suc (left - 1) = omega arith in w.is ∙ ap (λ (m : ℕ). found_or (roads_in m s) a b found) one
+
+    -- it joins the cells, and is taken
+    pub here : (t : Bool) → t ≡ joins a b (cells_of (get_or s (4 * (left - 1)) 0) (get_or s (4 * (left - 1) + 1) 0)) → t ≡ true
+        → road_between (roads_in n s) a b
+        ≡ found_or (roads_in (left - 1) s) a b (Some (record { from = get_or s (4 * (left - 1)) 0; to = get_or s (4 * (left - 1) + 1) 0; length = get_or s (4 * (left - 1) + 2) 0; margin = get_or s (4 * (left - 1) + 3) 0 }))
+    here t e q = at_hand ∙ last_here (left - 1) s a b found (sym q ∙ e)
+
+    -- or does not
+    pub passed : (t : Bool) → t ≡ joins a b (cells_of (get_or s (4 * (left - 1)) 0) (get_or s (4 * (left - 1) + 1) 0)) → t ≡ false
+        → road_between (roads_in n s) a b ≡ found_or (roads_in (left - 1) s) a b found
+    passed t e q = at_hand ∙ last_passed (left - 1) s a b found (sym q ∙ e)
+
+    -- so on to the one before it
+    pub way_down : (x : Option Road) → road_between (roads_in n s) a b ≡ found_or (roads_in (left - 1) s) a b x → Way n s a b false (left - 1) x
+    way_down x e = record { few = omega (arith, w.few); is = e; at_one = λ q. absurd (cc) }
+
+  -- none is left
+  pub way_ends : (linked : Bool) (left : ℕ) (found : Option Road) → Way n s a b linked left found → left ≤ 0 → found ≡ road_between (roads_in n s) a b
+  unfolding roads_in found_or
+  way_ends linked left found w h =
+      let none_left : left ≡ 0 = omega arith in
+      sym (w.is ∙ ap (λ (m : ℕ). found_or (roads_in m s) a b found) none_left)
 
   module _ (heads nexts : List ℕ) (k : Indexed n s heads nexts) where
     -- at the last road of the remainder
-    pub way_begins : (r : ℕ) → r ≡ bucket a b → r < 1024 → Way (get_or heads r 0) 0 0
-    way_begins r e l =
+    pub way_linked : (r : ℕ) → r ≡ bucket a b → r < 1024 → Way n s a b true (get_or heads r 0) None
+    way_linked r e l =
         let last : get_or heads r 0 ≡ last_in s (bucket a b) n = k.heads_are r l ∙ ap (λ (m : ℕ). last_in s m n) e in
-        subst (λ (m : ℕ). Way m 0 0) (sym last) (way_at n 0 0 (left_begins n s a b))
+        subst (λ (m : ℕ). Way n s a b true m None) (sym last) (way_at n None (omega arith) (sym (found_is (roads_in n s) a b)))
 
-    module _ (left long margin : ℕ) (w : Way left long margin) (some_left : 0 < left) where
+    module _ (left : ℕ) (found : Option Road) (w : Way n s a b true left found) (some_left : 0 < left) where
       -- the next, of the roads before the one at hand
       next_is : get_or nexts (left - 1) 0 ≡ last_in s (bucket a b) (left - 1)
-      next_is = k.nexts_are (left - 1) (omega (arith, w.0.0)) ∙ ap (λ (m : ℕ). last_in s m (left - 1)) (w.1 some_left)
+      next_is = k.nexts_are (left - 1) (omega (arith, w.few)) ∙ ap (λ (m : ℕ). last_in s m (left - 1)) (w.at_one refl some_left)
 
       -- fewer are left from there on
       pub way_less : get_or nexts (left - 1) 0 < left
       way_less = omega (arith, next_is, last_most s (bucket a b) (left - 1))
 
-      -- on to the next, once the road at hand is looked at
-      pub way_next : (x y : ℕ) → Left n s a b (left - 1) x y → Way (get_or nexts (left - 1) 0) x y
-      way_next x y l = subst (λ (m : ℕ). Way m x y) (sym next_is) (way_at (left - 1) x y l)
+      -- on to the next
+      pub way_next : (x : Option Road) → road_between (roads_in n s) a b ≡ found_or (roads_in (left - 1) s) a b x → Way n s a b true (get_or nexts (left - 1) 0) x
+      way_next x e = subst (λ (m : ℕ). Way n s a b true m x) (sym next_is) (way_at (left - 1) x (omega (arith, w.few)) e)

@@ -1,61 +1,92 @@
 -- The travel bounds along a path, one move after the other, and of one cart after the other. Assumes nothing.
-use Prim.Native.Nat.{ℕ, suc, ◌+◌, ◌*◌, ◌-◌, ◌≤◌, ◌<◌}
-use native.Mathlib.Nat.{sub-zero}
+use Prim.Native.Nat.{ℕ, zero, suc, ◌+◌, ◌*◌, ◌-◌, ◌/◌, ◌%◌, ◌≤◌, ◌<◌}
+use Rattle.std.specs.Prelude.{Option, min}
+use native.Mathlib.Nat.{div-zero}
 use native.Mathlib.Numerals.{add-one}
 use native.Mathlib.Omega.{arith}
-use mathlib.Core.Path.{◌≡◌, refl, ap, ap₂, sym, ◌∙◌}
+use Rattle.std.proofs.lemmas.Nat.{div-add-mod', div-mul-add}
+use mathlib.Core.Path.{◌≡◌, refl, ap, ap₂, sym, ◌∙◌, subst}
 use mathlib.Core.List.{List, [], ◌∷◌, ◌++◌, flat_map}
 use lib.ListN.{length, take, drop, get_or, length-drop}
-use lib.Seq.{sets, length-take-le, drop-drop, get_or-drop}
-use Rattle.floor.specs.Plan.{Road, Cart}
+use lib.Seq.{length-take-le, drop-drop, get_or-drop}
+use lib.Dec.{eqb}
+use borrow.Author.Tests.{ne_eqb}
+use mathlib.Core.Bool.{not}
+use Rattle.std.specs.Bool.{then_some}
+use Rattle.floor.specs.declared.Road.{Road}
+use Rattle.floor.specs.declared.Cart.{Cart}
 use Rattle.tables.specs.Arrays.{carts_in, paths_in}
 use Rattle.network.specs.Events.{Visit, visits_after, routes}
-use Rattle.network.specs.Bounds.{Bound, part_lengths, parts, div_up, least_time, most_time, road_of_move, parts_after, route_parts, part_bounds, travel_bounds}
-use Rattle.network.specs.BoundArrays.{bound_ends, bound_range, hi_number}
+use Rattle.network.specs.Bounds.{Bound, Part, part_lengths, parts, div_up, least_time, most_time, road_of_move, parts_after, route_parts, part_bounds, travel_bounds}
+use Rattle.network.specs.BoundArrays.{hi_kept, bound_of, Puts}
+use Rattle.network.specs.declared.BoundArrays.{BoundArrays}
+use Rattle.network.proofs.Putting.{puts_more}
 use Rattle.limits.specs.Counts.{moves}
-use Rattle.limits.proofs.Counts.{path_points, travel_count}
+use Rattle.limits.proofs.Counts.{path_points}
 use Rattle.limits.proofs.LimitSteps.{path_events}
 use Rattle.limits.proofs.CountSteps.{steps_from, visits_first, visits_wait, visits_move, visits_none, paths_cons}
-use Rattle.bounds.specs.Writing.{speed_of, cart_of, road_of, road_found, part_bound, move_bounds, path_bounds}
-use Rattle.network.proofs.BoundStores.{Pairs, more_stored}
-use Rattle.bounds.proofs.Stores.{three_stored}
+use Rattle.bounds.specs.declared.numbers.Speeds.{Speeds}
+use Rattle.bounds.specs.Writing.{speed_of, cart_of, cart_at, road_found, move_bounds, path_bounds}
+
+-- ---- a part of a move
+
+-- where no speed is given
+pub least_none : (n d : ℕ) → d ≡ 0 → 0 ≡ div_up n d
+unfolding div_up
+least_none n d e = sym (ap (λ (x : ℕ). (n + (x - 1)) / x) e ∙ div-zero (n + (0 - 1)))
+
+-- rounded up, as the library does
+pub least_some : (n d : ℕ) → 0 < d → n / d + min 1 (n % d) ≡ div_up n d
+unfolding div_up
+least_some n d h = by (n % d) refl
+  where
+    by : (r : ℕ) → n % d ≡ r → n / d + min 1 r ≡ (n + (d - 1)) / d
+    by zero e =
+        let whole : n / d * d + (d - 1) ≡ n + (d - 1) = omega (arith, div-add-mod' n d, e) in
+        let none : n / d + min 1 0 ≡ n / d = omega arith in
+        none ∙ sym (div-mul-add (n / d) d (d - 1) (omega arith)) ∙ ap (λ (x : ℕ). x / d) whole
+    by (suc r) e =
+        let whole : (n / d + 1) * d + r ≡ n + (d - 1) = omega (arith, div-add-mod' n d, e) in
+        let one : n / d + min 1 (suc r) ≡ n / d + 1 = omega arith in
+        one ∙ sym (div-mul-add (n / d + 1) d r (omega (arith, e))) ∙ ap (λ (x : ℕ). x / d) whole
+
+-- the bound of a part
+put_is : (c : Cart) (part : Part) (e f lo : ℕ) (hi : Option ℕ) → f ≡ suc e → lo ≡ least_time c part → hi ≡ most_time part → hi_kept hi ≡ hi
+    → bound_of e f lo hi ≡ record { from = e; to = suc e; lo = least_time c part; hi = most_time part }
+put_is c part e f lo hi p q r k =
+    ap₂ (λ (x y : ℕ). record { from = e; to = x; lo = y; hi = hi_kept hi }) p q
+    ∙ ap (λ (h : Option ℕ). record { from = e; to = suc e; lo = least_time c part; hi = h }) (k ∙ r)
 
 -- ---- a move
 
--- the ends of a part's bound
-pub part_ends : (s t : List ℕ) (k e : ℕ) (c : Cart) (part : ℕ) → t ≡ sets s (2 * k) (e ∷ (e + 1) ∷ []) → t ≡ sets s (2 * k) (bound_ends (part_bound c e part))
-unfolding bound_ends part_bound
-part_ends s t k e c part q = q ∙ ap (λ (n : ℕ). sets s (2 * k) (e ∷ n ∷ [])) (add-one e)
+-- three parts put
+module _ (s : Speeds) (d : Road) (e k rest lo lo' : ℕ) (hi hi' : Option ℕ) (rest-is : rest ≡ d.length - 2 * d.margin)
+    (lo-is : lo ≡ least_time (cart_of s) (record { length = d.margin; slowest = s.slowest })) (hi-is : hi ≡ most_time (record { length = d.margin; slowest = s.slowest }))
+    (lo'-is : lo' ≡ least_time (cart_of s) (record { length = rest; slowest = s.slowest })) (hi'-is : hi' ≡ most_time (record { length = rest; slowest = s.slowest }))
+    (kept : hi_kept hi ≡ hi) (kept' : hi_kept hi' ≡ hi') where
+  abbrev part_bound : ℕ → Part → Bound
+  part_bound i p = record { from = i; to = suc i; lo = least_time (cart_of s) p; hi = most_time p }
 
--- its range
-pub part_range : (s t : List ℕ) (k e fastest slowest part lo hi : ℕ) → lo ≡ div_up (1000 * part) fastest
-    → hi ≡ hi_number (most_time (record { length = part; slowest = speed_of slowest })) → t ≡ sets s (2 * k) (lo ∷ hi ∷ [])
-    → t ≡ sets s (2 * k) (bound_range (part_bound (cart_of fastest slowest) e part))
-unfolding bound_range part_bound cart_of least_time
-part_range s t k e fastest slowest part lo hi a b q = q ∙ ap₂ (λ (m n : ℕ). sets s (2 * k) (m ∷ n ∷ [])) a b
+  three_parts : bound_of e (e + 1) lo hi ∷ bound_of (e + 1) (e + 2) lo' hi' ∷ bound_of (e + 2) (e + 3) lo hi ∷ [] ≡ move_bounds (cart_of s) e d
+  unfolding move_bounds parts part_lengths part_bounds
+  three_parts =
+      let one : e + 1 ≡ suc e = omega arith in
+      let two : e + 2 ≡ suc (suc e) = omega arith in
+      let three : e + 3 ≡ suc (e + 2) = omega arith in
+      let after : e + 2 ≡ suc (e + 1) = omega arith in
+      let edge : Part = record { length = d.margin; slowest = s.slowest } in
+      let middle : Part = record { length = rest; slowest = s.slowest } in
+      ap (λ (b : Bound). b ∷ bound_of (e + 1) (e + 2) lo' hi' ∷ bound_of (e + 2) (e + 3) lo hi ∷ []) (put_is (cart_of s) edge e (e + 1) lo hi one lo-is hi-is kept)
+      ∙ ap₂ (λ (b f : Bound). part_bound e edge ∷ b ∷ f ∷ []) (put_is (cart_of s) middle (e + 1) (e + 2) lo' hi' after lo'-is hi'-is kept') (put_is (cart_of s) edge (e + 2) (e + 3) lo hi three lo-is hi-is kept)
+      ∙ ap₂ (λ (i j : ℕ). part_bound e edge ∷ part_bound i middle ∷ part_bound j edge ∷ []) one two
+      ∙ ap (λ (l : ℕ). part_bound e edge ∷ part_bound (suc e) (record { length = l; slowest = s.slowest }) ∷ part_bound (suc (suc e)) edge ∷ []) rest-is
 
--- the bounds of its three parts
-three_parts : (c : Cart) (e long margin rest : ℕ) → rest ≡ long - 2 * margin
-    → part_bound c e margin ∷ part_bound c (e + 1) rest ∷ part_bound c (e + 2) margin ∷ [] ≡ move_bounds c e (road_of long margin)
-unfolding move_bounds parts part_lengths part_bounds road_of part_bound
-three_parts c e long margin rest q =
-    let two : e + 2 ≡ suc (suc e) = omega arith in
-    ap (λ (n : ℕ). part_bound c e margin ∷ part_bound c n rest ∷ part_bound c (e + 2) margin ∷ []) (add-one e)
-    ∙ ap (λ (n : ℕ). part_bound c e margin ∷ part_bound c (suc e) rest ∷ part_bound c n margin ∷ []) two
-    ∙ ap (λ (n : ℕ). part_bound c e margin ∷ part_bound c (suc e) n ∷ part_bound c (suc (suc e)) margin ∷ []) q
-
--- stored
-pub move_stored : (g : Bound → List ℕ) → Pairs g → (s t u v : List ℕ) (k e : ℕ) (c : Cart) (long margin rest : ℕ) → rest ≡ long - 2 * margin
-    → t ≡ sets s (2 * k) (g (part_bound c e margin)) → u ≡ sets t (2 * (k + 1)) (g (part_bound c (e + 1) rest))
-    → v ≡ sets u (2 * (k + 2)) (g (part_bound c (e + 2) margin)) → v ≡ sets s (2 * k) (flat_map g (move_bounds c e (road_of long margin)))
-move_stored g p s t u v k e c long margin rest q x y z =
-    three_stored g p s t u v k (part_bound c e margin) (part_bound c (e + 1) rest) (part_bound c (e + 2) margin) x y z
-    ∙ ap (λ (bs : List Bound). sets s (2 * k) (flat_map g bs)) (three_parts c e long margin rest q)
-
--- they go by the road's length and margin alone
-pub by_lengths : (c : Cart) (e long margin : ℕ) (d : Road) → long ≡ d.length → margin ≡ d.margin → move_bounds c e (road_of long margin) ≡ move_bounds c e d
-unfolding move_bounds parts part_lengths road_of
-by_lengths c e long margin d p q = ap₂ (λ (x y : ℕ). move_bounds c e (road_of x y)) p q
+  pub move_put : (a b c z : BoundArrays) → Puts a b k (bound_of e (e + 1) lo hi ∷ []) → Puts b c (k + 1) (bound_of (e + 1) (e + 2) lo' hi' ∷ [])
+      → Puts c z (k + 2) (bound_of (e + 2) (e + 3) lo hi ∷ []) → Puts a z k (move_bounds (cart_of s) e d)
+  move_put a b c t x y z =
+      let second : k + 1 ≡ k + 1 = refl in
+      let third : k + 2 ≡ k + 1 + 1 = omega arith in
+      subst (Puts a t k) three_parts (puts_more a b t k (k + 1) _ _ x (puts_more b c t (k + 1) (k + 2) _ _ y z third) second)
 
 -- ---- along a path
 
@@ -73,7 +104,7 @@ by_cell roads c f t x (y ∷ ys) = refl
 -- those of a move, and those after it
 along_move : (roads : List Road) (c : Cart) (f t x y : ℕ) (vs : List Visit)
     → along roads c f x (record { step = t; cell = y } ∷ vs) ≡ move_bounds c f (road_found roads x y) ++ along roads c (f + 3) y vs
-unfolding parts_after road_of_move road_found road_of move_bounds parts part_lengths part_bounds
+unfolding parts_after road_of_move road_found move_bounds parts part_lengths part_bounds
 along_move roads c f t x y vs =
     let three : f + 3 ≡ suc (suc (suc f)) = omega arith in
     let bs : List Bound = move_bounds c f (road_found roads x y) in
@@ -103,31 +134,6 @@ module _ (roads : List Road) (c : Cart) (s : List ℕ) (at w : ℕ) (fits : at +
       let y : ℕ = get_or s (at + t) 0 in
       sym (along_move roads c f t x y (visits_after y (t + 1) (steps_from s at w (t + 1)))) ∙ ap (along roads c f x) (sym (visits_move s at w fits x t l e))
 
-  module _ (g : Bound → List ℕ) (p : Pairs g) (f n x t : ℕ) (l : t < w) (m u : List ℕ) (f' n' : ℕ) where
-    -- after a wait as much is left to store
-    pub wait_stored : x ≡ get_or s (at + t) 0 → u ≡ m → f' ≡ f → n' ≡ n
-        → sets u (2 * n') (flat_map g (along roads c f' (get_or s (at + t) 0) (visits_after (get_or s (at + t) 0) (t + 1) (steps_from s at w (t + 1)))))
-        ≡ sets m (2 * n) (flat_map g (along roads c f x (visits_after x t (steps_from s at w t))))
-    wait_stored e q a b =
-        let y : ℕ = get_or s (at + t) 0 in
-        let vs : List Visit = visits_after y (t + 1) (steps_from s at w (t + 1)) in
-        ap (λ (k : List ℕ). sets k (2 * n') (flat_map g (along roads c f' y vs))) q
-        ∙ ap₂ (λ (i j : ℕ). sets m (2 * i) (flat_map g (along roads c j y vs))) b a
-        ∙ ap (λ (bs : List Bound). sets m (2 * n) (flat_map g bs)) (path_wait f x t l e)
-
-    -- after a move what is left is stored behind its bounds
-    pub moved_stored : (x ≡ get_or s (at + t) 0 → ⊥) → f' ≡ f + 3 → n' ≡ n + 3
-        → u ≡ sets m (2 * n) (flat_map g (move_bounds c f (road_found roads x (get_or s (at + t) 0))))
-        → sets u (2 * n') (flat_map g (along roads c f' (get_or s (at + t) 0) (visits_after (get_or s (at + t) 0) (t + 1) (steps_from s at w (t + 1)))))
-        ≡ sets m (2 * n) (flat_map g (along roads c f x (visits_after x t (steps_from s at w t))))
-    unfolding move_bounds parts part_lengths part_bounds
-    moved_stored e a b q =
-        let y : ℕ = get_or s (at + t) 0 in
-        let vs : List Visit = visits_after y (t + 1) (steps_from s at w (t + 1)) in
-        ap (λ (j : ℕ). sets u (2 * n') (flat_map g (along roads c j y vs))) a
-        ∙ more_stored g p m u n n' (move_bounds c f (road_found roads x y)) (along roads c (f + 3) y vs) b q
-        ∙ ap (λ (bs : List Bound). sets m (2 * n) (flat_map g bs)) (path_move f x t l e)
-
   -- none after the last step
   pub path_none : (f x t : ℕ) → w ≤ t → along roads c f x (visits_after x t (steps_from s at w t)) ≡ []
   unfolding parts_after part_bounds
@@ -137,16 +143,16 @@ module _ (roads : List Road) (c : Cart) (s : List ℕ) (at w : ℕ) (fits : at +
 
 -- the cart at hand and those after it
 carts_cons : (n i : ℕ) (s : List ℕ) → i < n
-    → carts_in (n - i) (drop (2 * i) s) ≡ cart_of (get_or s (2 * i) 0) (get_or s (2 * i + 1) 0) ∷ carts_in (n - (i + 1)) (drop (2 * (i + 1)) s)
-unfolding carts_in cart_of speed_of
+    → carts_in (n - i) (drop (2 * i) s) ≡ cart_at s i ∷ carts_in (n - (i + 1)) (drop (2 * (i + 1)) s)
+unfolding carts_in cart_at speed_of
 carts_cons n i s l =
     let one : n - i ≡ suc (n - (i + 1)) = omega arith in
     let first : 2 * i + 0 ≡ 2 * i = omega arith in
     let next : 2 * i + 2 ≡ 2 * (i + 1) = omega arith in
     let d : List ℕ = drop (2 * i) s in
     ap (λ (m : ℕ). carts_in m d) one
-    ∙ ap (λ (r : List ℕ). cart_of (get_or d 0 0) (get_or d 1 0) ∷ carts_in (n - (i + 1)) r) (drop-drop 2 (2 * i) s ∙ ap (λ (m : ℕ). drop m s) next)
-    ∙ ap₂ (λ (x y : ℕ). cart_of x y ∷ carts_in (n - (i + 1)) (drop (2 * (i + 1)) s)) (get_or-drop (2 * i) s 0 0 ∙ ap (λ (m : ℕ). get_or s m 0) first) (get_or-drop (2 * i) s 1 0)
+    ∙ ap (λ (r : List ℕ). record { fastest = get_or d 0 0; slowest = speed_of (get_or d 1 0) } ∷ carts_in (n - (i + 1)) r) (drop-drop 2 (2 * i) s ∙ ap (λ (m : ℕ). drop m s) next)
+    ∙ ap₂ (λ (x y : ℕ). record { fastest = x; slowest = speed_of y } ∷ carts_in (n - (i + 1)) (drop (2 * (i + 1)) s)) (get_or-drop (2 * i) s 0 0 ∙ ap (λ (m : ℕ). get_or s m 0) first) (get_or-drop (2 * i) s 1 0)
 
 -- the events of a path
 path_numbers : (s : List ℕ) (at w : ℕ) → at + w ≤ length s → 1 ≤ w → path_points (take w (drop at s)) ≡ suc (3 * moves (take w (drop at s)))
@@ -159,10 +165,10 @@ module _ (roads : List Road) (speeds s : List ℕ) (n w : ℕ) where
 
   -- the cart at hand and those after it
   pub travel_cart : (i e at f : ℕ) → i < n → at + w ≤ length s → 1 ≤ w → f ≡ e + suc (3 * moves (take w (drop at s)))
-      → path_bounds roads (cart_of (get_or speeds (2 * i) 0) (get_or speeds (2 * i + 1) 0)) e (take w (drop at s)) ++ travel_left (i + 1) f (at + w) ≡ travel_left i e at
+      → path_bounds roads (cart_at speeds i) e (take w (drop at s)) ++ travel_left (i + 1) f (at + w) ≡ travel_left i e at
   unfolding travel_bounds flat_map routes path_bounds
   travel_cart i e at f l fits o q =
-      let c : Cart = cart_of (get_or speeds (2 * i) 0) (get_or speeds (2 * i + 1) 0) in
+      let c : Cart = cart_at speeds i in
       let p : List ℕ = take w (drop at s) in
       let cs : List Cart = carts_in (n - (i + 1)) (drop (2 * (i + 1)) speeds) in
       let ps : List (List ℕ) = paths_in (n - (i + 1)) w (drop (at + w) s) in
@@ -177,21 +183,8 @@ module _ (roads : List Road) (speeds s : List ℕ) (n w : ℕ) where
       let none : n - i ≡ 0 = omega arith in
       ap (λ (m : ℕ). travel_bounds roads (routes (suc i) e (carts_in m (drop (2 * i) speeds)) (paths_in m w (drop at s)))) none
 
-  module _ (g : Bound → List ℕ) (p : Pairs g) where
-    -- none is stored yet
-    pub travel_first : (t : List ℕ) (k : ℕ)
-        → sets t (2 * k) (flat_map g (travel_left 0 1 0)) ≡ sets t (2 * k) (flat_map g (travel_bounds roads (routes 1 1 (carts_in n speeds) (paths_in n w s))))
-    travel_first t k = ap (λ (m : ℕ). sets t (2 * k) (flat_map g (travel_bounds roads (routes 1 1 (carts_in m speeds) (paths_in m w s))))) (sub-zero n)
-
-    -- what is left is stored behind the bounds of the cart at hand
-    pub cart_stored : (i e at f : ℕ) → i < n → at + w ≤ length s → 1 ≤ w → f ≡ e + suc (3 * moves (take w (drop at s)))
-        → (t u : List ℕ) (k j : ℕ) → j ≡ k + 3 * moves (take w (drop at s))
-        → u ≡ sets t (2 * k) (flat_map g (path_bounds roads (cart_of (get_or speeds (2 * i) 0) (get_or speeds (2 * i + 1) 0)) e (take w (drop at s))))
-        → sets u (2 * j) (flat_map g (travel_left (i + 1) f (at + w))) ≡ sets t (2 * k) (flat_map g (travel_left i e at))
-    unfolding path_bounds
-    cart_stored i e at f l fits o q t u k j b put =
-        let c : Cart = cart_of (get_or speeds (2 * i) 0) (get_or speeds (2 * i + 1) 0) in
-        let bs : List Bound = path_bounds roads c e (take w (drop at s)) in
-        let count : j ≡ k + length bs = omega (arith, b, travel_count roads c e (take w (drop at s))) in
-        more_stored g p t u k j bs (travel_left (i + 1) f (at + w)) count put
-        ∙ ap (λ (x : List Bound). sets t (2 * k) (flat_map g x)) (travel_cart i e at f l fits o q)
+-- the cart of the two numbers of an array
+pub speed_is : (n : ℕ) → then_some (not (eqb n 0)) n ≡ speed_of n
+unfolding speed_of
+speed_is zero = refl
+speed_is (suc n) = rw (ne_eqb (suc n) 0 (λ e. omega arith)) refl

@@ -1,63 +1,94 @@
 -- What the writer of a held plan's bounds answers and leaves, by whether the slice is long enough and a plan is held. Assumes nothing.
-use Prim.Native.Nat.{ℕ, ◌≤◌, ◌<◌}
+use Rattle.std.specs.Prelude.{Option, None, Some, Result, Err, is_err, List, ℕ, ◌≤◌, ◌<◌, Bool, true, false}
 use mathlib.Core.Path.{◌≡◌, refl, ap, sym, ◌∙◌, subst}
-use mathlib.Core.Bool.{Bool, true, false}
-use mathlib.Core.List.{List}
-use mathlib.Core.Option.{Option, none, some}
-use native.Mathlib.Omega.{arith}
 use lib.ListN.{length, replicate}
 use borrow.Author.Tests.{le-leb, lt-leb}
-use Rattle.network.specs.BoundArrays.{bound_ends, bound_range}
+use Rattle.network.specs.BoundArrays.{bound_ends, bound_range, Puts}
+use Rattle.network.specs.declared.BoundArrays.{BoundArrays}
+use Rattle.network.proofs.Putting.{puts_long}
+use Rattle.network.specs.Bounds.{Bound}
+use Rattle.schedule.specs.Added.{all_bounds}
+use Rattle.slice.specs.declared.HoldError.{HoldError}
 use Rattle.slice.specs.PlanSlice.{plan_need, Held, held}
 use Rattle.bounds.specs.declared.Bounding.{Bounding}
-use Rattle.bounds.specs.Bounding.{bounding_fits, bounding, bounding_answer, bounds_left, bounding_left}
-use Rattle.bounds.proofs.Written.{Wrote}
+use Rattle.bounds.specs.Bounding.{bounding_fits, bounding_held, bounding, bounding_answer, bounds_left, bounding_left, BoundsLeft, Leaves}
 
--- which case an answer is
-case_of : Bounding → ℕ
-case_of Bounding.TooShort = 0
-case_of Bounding.NoPlan = 1
-case_of (Bounding.Bounds n own m) = 2
-
-module _ (s e r : List ℕ) where
-  -- what is answered and left: the arrays were e and r and are t and u
-  abbrev pub Ends : Bounding → List ℕ → List ℕ → Type 0
-  Ends x t u =
-      (x ≡ bounding_answer (bounding_fits s) (held s))
-      × ((t ≡ bounding_left bound_ends (bounding_fits s) (held s) e) × (u ≡ bounding_left bound_range (bounding_fits s) (held s) r))
-
-  -- by whether the slice is long enough
-  by_length : (x : Bounding) (t u : List ℕ) (b : Bool) → bounding_fits s ≡ b
-      → (x ≡ bounding_answer b (held s)) × ((t ≡ bounding_left bound_ends b (held s) e) × (u ≡ bounding_left bound_range b (held s) r)) → Ends x t u
-  by_length x t u b q w =
-      subst (λ (y : Bool). (x ≡ bounding_answer y (held s)) × ((t ≡ bounding_left bound_ends y (held s) e) × (u ≡ bounding_left bound_range y (held s) r))) (sym q) w
+module _ (s : List ℕ) (a : BoundArrays) where
+  -- what is answered and left
+  abbrev pub Ends : Result Bounding HoldError → BoundArrays → Type 0
+  Ends x b = (x ≡ bounding_answer (bounding_fits s) (held s)) × BoundsLeft (bounding_fits s) (held s) a b
 
   -- it is too short
-  pub short_plan : length s < plan_need → Ends Bounding.TooShort e r
+  pub short_plan : length s < plan_need → Ends (Err HoldError.TooShort) a
   unfolding bounding_fits bounding_answer bounding_left
-  short_plan h = by_length Bounding.TooShort e r false (lt-leb plan_need (length s) h) (refl, (refl, refl))
+  short_plan h =
+      let short : bounding_fits s ≡ false = lt-leb plan_need (length s) h in (
+        sym (ap (λ (t : Bool). bounding_answer t (held s)) short),
+        record {
+          same_ends = refl;
+          same_ranges = refl;
+          ends = sym (ap (λ (t : Bool). bounding_left bound_ends t (held s) a.ends.now) short);
+          ranges = sym (ap (λ (t : Bool). bounding_left bound_range t (held s) a.ranges.now) short);
+        },
+      )
 
-  module _ (h : plan_need ≤ length s) where
-    long_plan : (o : Option Held) → held s ≡ o → (x : Bounding) (t u : List ℕ) → x ≡ bounding o → t ≡ bounds_left bound_ends o e → u ≡ bounds_left bound_range o r → Ends x t u
-    unfolding bounding_fits bounding_answer bounding_left
-    long_plan o f x t u a b c =
-        by_length x t u true (le-leb plan_need (length s) h)
-        (a ∙ ap bounding (sym f), (b ∙ ap (λ (i : Option Held). bounds_left bound_ends i e) (sym f), c ∙ ap (λ (i : Option Held). bounds_left bound_range i r) (sym f)))
+  module _ (h : plan_need ≤ length s) (x : Result Bounding HoldError) (b : BoundArrays) (x-is : x ≡ bounding (held s)) (w : Leaves (held s) a b) where
+    long : bounding_fits s ≡ true
+    unfolding bounding_fits
+    long = le-leb plan_need (length s) h
+
+    answer : x ≡ bounding_answer (bounding_fits s) (held s)
+    unfolding bounding_answer
+    answer = x-is ∙ sym (ap (λ (t : Bool). bounding_answer t (held s)) long)
+
+    -- where none is held, or one is
+    none : is_err x ≡ true → held s ≡ None
+    unfolding bounding bounding_held
+    none q = by (held s) refl
+      where
+        by : (o : Option Held) → held s ≡ o → held s ≡ None
+        by None e = e
+        by (Some k) e = let z : false ≡ true = sym (ap is_err (x-is ∙ ap bounding e)) ∙ q in absurd (cc)
+
+    some : is_err x ≡ false → (k : Held) × (held s ≡ Some k)
+    unfolding bounding bounding_held
+    some q = by (held s) refl
+      where
+        by : (o : Option Held) → held s ≡ o → (k : Held) × (held s ≡ Some k)
+        by None e = let z : true ≡ false = sym (ap is_err (x-is ∙ ap bounding e)) ∙ q in absurd (cc)
+        by (Some k) e = (k, e)
+
+    -- what is left of an array, by what is held
+    left_by : (g : Bound → List ℕ) (o : Option Held) → held s ≡ o → (e t : List ℕ) → t ≡ bounds_left g o e → t ≡ bounding_left g (bounding_fits s) (held s) e
+    unfolding bounding_left
+    left_by g o f e t q = q ∙ ap (λ (i : Option Held). bounds_left g i e) (sym f) ∙ sym (ap (λ (i : Bool). bounding_left g i (held s) e) long)
 
     -- no plan, and the arrays are cleared
-    pub cleared_plan : (x : Bounding) → x ≡ bounding (held s) → x ≡ Bounding.NoPlan → (t u : List ℕ) → t ≡ replicate (length e) 0 → u ≡ replicate (length r) 0 → Ends x t u
-    unfolding bounding bounds_left case_of
-    cleared_plan x is q t u a b = by (held s) refl
-      where
-        by : (o : Option Held) → held s ≡ o → Ends x t u
-        by none f = long_plan none f x t u q a b
-        by (some k) f = absurd (let n : ◌≡◌ {A = ℕ} 1 2 = ap case_of (sym q ∙ is ∙ ap bounding f) in omega arith)
+    pub cleared_plan : is_err x ≡ true → (c : BoundArrays) → c.ends.ghost_name ≡ b.ends.ghost_name → c.ranges.ghost_name ≡ b.ranges.ghost_name
+        → c.ends.now ≡ replicate (length b.ends.now) 0 → c.ranges.now ≡ replicate (length b.ranges.now) 0 → Ends x c
+    unfolding bounds_left
+    cleared_plan q c ne nr e r =
+        let (le, lr) = puts_long a b 0 w.written w.puts in (
+          answer,
+          record {
+            same_ends = ne ∙ w.puts.same_ends;
+            same_ranges = nr ∙ w.puts.same_ranges;
+            ends = left_by bound_ends None (none q) _ _ (e ∙ ap (λ (n : ℕ). replicate n 0) le);
+            ranges = left_by bound_range None (none q) _ _ (r ∙ ap (λ (n : ℕ). replicate n 0) lr);
+          },
+        )
 
     -- a plan, and its bounds are there
-    pub written_plan : (x : Bounding) (t u : List ℕ) → Wrote (held s) x e r t u → (x ≡ Bounding.NoPlan → ⊥) → Ends x t u
-    unfolding bounding
-    written_plan x t u (is, (a, b)) other = by (held s) refl
-      where
-        by : (o : Option Held) → held s ≡ o → Ends x t u
-        by none f = absurd (other (is ∙ ap bounding f))
-        by (some k) f = long_plan (some k) f x t u (is ∙ ap bounding f) (a k f) (b k f)
+    pub written_plan : is_err x ≡ false → Ends x b
+    unfolding bounds_left
+    written_plan q =
+        let (k, e) = some q in
+        let p : Puts a b 0 (all_bounds k.plan k.book) = subst (Puts a b 0) (w.are k e) w.puts in (
+          answer,
+          record {
+            same_ends = p.same_ends;
+            same_ranges = p.same_ranges;
+            ends = left_by bound_ends (Some k) e _ _ p.ends;
+            ranges = left_by bound_range (Some k) e _ _ p.ranges;
+          },
+        )

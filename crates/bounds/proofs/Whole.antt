@@ -1,18 +1,20 @@
 -- The bounds of a plan in arrays: start, travel, order and finish bounds, one behind the other, and what is answered. Assumes nothing.
+use Rattle.std.specs.Prelude.{Option, None, Some}
 use Prim.Native.Nat.{ℕ, zero, suc, ◌+◌, ◌*◌, ◌-◌, ◌≤◌, ◌<◌}
 use native.Mathlib.Nat.{min-le_right}
 use native.Mathlib.Numerals.{add-one}
 use native.Mathlib.Omega.{arith}
 use mathlib.Core.Path.{◌≡◌, refl, ap, ap₂, sym, ◌∙◌, subst}
 use mathlib.Core.Bool.{Bool, true, cond}
-use mathlib.Core.List.{List, [], ◌∷◌, ◌++◌, map, flat_map}
-use mathlib.Core.Option.{some}
-use lib.ListN.{length, take, drop, get_or, length-take}
-use lib.Seq.{sets, take-nil, take-take, get_or-take}
+use mathlib.Core.List.{List, [], ◌∷◌, ◌++◌, map}
+use lib.ListN.{length, take, drop, get_or, length-take, drop_of_length-le}
+use lib.Seq.{drop-cons, take-nil, take-take, get_or-take}
 use Rattle.words.specs.Words.{written}
 use Rattle.words.proofs.Reading.{written_front}
-use Rattle.floor.specs.Plan.{Cart, Plan}
-use Rattle.tables.specs.Arrays.{roads_in, carts_in, paths_in}
+use Rattle.floor.specs.Plan.{Plan}
+use Rattle.floor.specs.declared.Cart.{Cart}
+use Rattle.collisions.specs.Meetings.{paths_of}
+use Rattle.tables.specs.Arrays.{carts_in, paths_in}
 use Rattle.tables.proofs.CartRecords.{carts_in_length}
 use Rattle.tables.proofs.PathRecords.{paths_in_length}
 use Rattle.network.specs.Events.{route_points, routes, routes_of, event_count, last_event, finish_event}
@@ -26,9 +28,31 @@ use Rattle.limits.proofs.Firsts.{firsts_from, first_events_are, firsts_count, ke
 use Rattle.limits.proofs.OrderSteps.{orders_numbered}
 use Rattle.limits.proofs.RowBounds.{of_paths_carts, orders_by_paths, order_count_is}
 use Rattle.bounds.specs.declared.Network.{Network}
-use Rattle.bounds.specs.Network.{Numbers, plan_in, network_answer}
-use Rattle.bounds.specs.Writing.{start_to, finish_before}
-use Rattle.network.proofs.BoundStores.{Pairs, more_stored}
+use Rattle.bounds.specs.declared.numbers.Numbers.{Numbers}
+use Rattle.bounds.specs.Network.{plan_in, network_of, network_answer}
+use Rattle.bounds.specs.Writing.{roads_of, start_to, finish_before}
+use Rattle.network.specs.BoundArrays.{bound_of, hi_kept, Puts}
+use Rattle.network.specs.declared.BoundArrays.{BoundArrays}
+use Rattle.network.proofs.Putting.{puts_more}
+
+-- ---- a bound for each number of a row
+
+-- one, and those after it
+pub row_next : (f : ℕ → Bound) (s : List ℕ) (i : ℕ) → i < length s → map f (drop i s) ≡ (f (get_or s i 0) ∷ []) ++ map f (drop (i + 1) s)
+row_next f s i h = ap (map f) (drop-cons s i 0 h) ∙ ap (λ (m : ℕ). f (get_or s i 0) ∷ map f (drop m s)) (sym (add-one i))
+
+-- none
+pub row_last : (f : ℕ → Bound) (s : List ℕ) (i : ℕ) → length s ≤ i → map f (drop i s) ≡ []
+row_last f s i h = ap (map f) (drop_of_length-le s {i = i} h)
+
+-- as the code puts them
+pub start_is : (e : ℕ) → start_to e ≡ bound_of 0 e 0 (Some 0)
+unfolding start_to hi_kept
+start_is e = refl
+
+pub finish_is : (f e : ℕ) → finish_before f e ≡ bound_of (e - 1) f 0 None
+unfolding finish_before no_earlier hi_kept
+finish_is f e = refl
 
 -- ---- by first events
 
@@ -82,39 +106,42 @@ drop_take : (n : ℕ) (l : List ℕ) → drop 1 (take (suc n) l) ≡ take n (dro
 drop_take n [] = sym (take-nil n)
 drop_take n (x ∷ xs) = refl
 
-module _ (roads carts w : ℕ) (a : Numbers) where
+module _ (n : Numbers) where
+  abbrev carts : ℕ
+  carts = n.paths.carts
+
   -- the plan's paths
   abbrev paths : List (List ℕ)
-  paths = paths_in carts w a.cells
+  paths = paths_of n.paths
 
   -- one for each cart
-  even : length (plan_in roads carts w a).carts ≡ length (plan_in roads carts w a).paths
+  even : length (plan_in n).carts ≡ length (plan_in n).paths
   unfolding plan_in
-  even = carts_in_length carts a.speeds ∙ sym (paths_in_length carts w a.cells)
+  even = carts_in_length carts n.speeds.now ∙ sym (paths_in_length carts n.paths.steps n.paths.cells.now)
 
   -- its order bounds go by the paths alone
-  orders_are : order_bounds (routes_of (of_paths paths)) ≡ order_bounds (routes_of (plan_in roads carts w a))
+  orders_are : order_bounds (routes_of (of_paths paths)) ≡ order_bounds (routes_of (plan_in n))
   unfolding plan_in
-  orders_are = sym (orders_by_paths (plan_in roads carts w a) even)
+  orders_are = sym (orders_by_paths (plan_in n) even)
 
   -- its routes
-  routes_are : routes_of (plan_in roads carts w a) ≡ routes 1 1 (carts_in carts a.speeds) paths
+  routes_are : routes_of (plan_in n) ≡ routes 1 1 (carts_in carts n.speeds.now) paths
   unfolding plan_in routes_of
   routes_are = refl
 
   -- how many bounds it has
-  pub bounds_count : length (bounds (plan_in roads carts w a)) ≡ carts + 3 * total moves paths + length (order_bounds (routes_of (of_paths paths))) + carts
+  pub bounds_count : length (bounds (plan_in n)) ≡ carts + 3 * total moves paths + length (order_bounds (routes_of (of_paths paths))) + carts
   unfolding plan_in
   bounds_count =
-      let p : Plan = plan_in roads carts w a in
-      omega (arith, bounds_are p even, order_count_is p even, ap (λ (os : List Bound). length os) orders_are, paths_in_length carts w a.cells)
+      let p : Plan = plan_in n in
+      omega (arith, bounds_are p even, order_count_is p even, ap (λ (os : List Bound). length os) orders_are, paths_in_length carts n.paths.steps n.paths.cells.now)
 
   -- sizes: carts, steps, cells, events and order bounds
-  pub sizes : events_kept carts w a.cells ≡ true
-      → ((carts ≤ 64) × (1 ≤ w) × (w ≤ 1024) × (carts * w ≤ length a.cells)) × (2 + carts + 3 * total moves paths ≤ 4096) × (length (order_bounds (routes_of (of_paths paths))) ≤ 90112)
+  pub sizes : events_kept carts n.paths.steps n.paths.cells.now ≡ true
+      → ((carts ≤ 64) × (1 ≤ n.paths.steps) × (n.paths.steps ≤ 1024) × (carts * n.paths.steps ≤ length n.paths.cells.now)) × (2 + carts + 3 * total moves paths ≤ 4096) × (length (order_bounds (routes_of (of_paths paths))) ≤ 90112)
   sizes e =
-      let (few, events) = kept_says carts w a.cells true (sym e) refl in
-      (few, events, orders_numbered carts w a.cells few.0 (omega (arith, few.0, events)))
+      let (few, events) = kept_says carts n.paths.steps n.paths.cells.now true (sym e) refl in
+      (few, events, orders_numbered carts n.paths.steps n.paths.cells.now few.0 (omega (arith, few.0, events)))
 
   module _ (firsts : List ℕ) (held : take (carts + 1) firsts ≡ first_events (of_paths paths)) where
     -- the numbers of the carts' first events, and the finish's
@@ -129,79 +156,77 @@ module _ (roads carts w : ℕ) (a : Numbers) where
     -- all are there
     pub firsts_there : carts < length firsts
     firsts_there =
-        omega (arith, ap (λ (x : List ℕ). length x) firsts_are, firsts_count paths 1, paths_in_length carts w a.cells, length-take (suc carts) firsts, min-le_right (suc carts) (length firsts))
+        omega (arith, ap (λ (x : List ℕ). length x) firsts_are, firsts_count paths 1, paths_in_length carts n.paths.steps n.paths.cells.now, length-take (suc carts) firsts, min-le_right (suc carts) (length firsts))
 
     -- and none is 0
     pub firsts_positive : (i : ℕ) → i < carts → 0 < get_or firsts (i + 1) 0
     firsts_positive i l =
-        subst (λ (n : ℕ). 0 < n) (sym (first_at (i + 1) (omega arith))) (firsts_some paths 1 (i + 1) (omega arith) (omega (arith, l, paths_in_length carts w a.cells)))
+        subst (λ (n : ℕ). 0 < n) (sym (first_at (i + 1) (omega arith))) (firsts_some paths 1 (i + 1) (omega arith) (omega (arith, l, paths_in_length carts n.paths.steps n.paths.cells.now)))
 
     -- the finish's number
-    pub finish_at : get_or firsts carts 0 ≡ finish_event (plan_in roads carts w a)
+    pub finish_at : get_or firsts carts 0 ≡ finish_event (plan_in n)
     unfolding plan_in finish_event
     finish_at =
-        first_at carts (omega arith) ∙ ap (λ (n : ℕ). get_or (firsts_from 1 paths) n 0) (sym (paths_in_length carts w a.cells)) ∙ finish_last paths 1
-        ∙ omega (arith, events_are (plan_in roads carts w a) even)
+        first_at carts (omega arith) ∙ ap (λ (n : ℕ). get_or (firsts_from 1 paths) n 0) (sym (paths_in_length carts n.paths.steps n.paths.cells.now)) ∙ finish_last paths 1
+        ∙ omega (arith, events_are (plan_in n) even)
 
     -- it is small
-    pub finish_small : events_kept carts w a.cells ≡ true → get_or firsts carts 0 ≤ 4096
+    pub finish_small : events_kept carts n.paths.steps n.paths.cells.now ≡ true → get_or firsts carts 0 ≤ 4096
     unfolding plan_in finish_event
     finish_small kept =
         let (few, events, _) = sizes kept in
-        omega (arith, finish_at, events, events_are (plan_in roads carts w a) even, all_events carts w a.cells few.1 few.3)
+        omega (arith, finish_at, events, events_are (plan_in n) even, all_events carts n.paths.steps n.paths.cells.now few.1 few.3)
 
     -- the answer
-    pub answered : (n : ℕ) → n ≡ length (bounds (plan_in roads carts w a)) → Network.Bounds (get_or firsts carts 0 + 1) n ≡ network_answer (some (plan_in roads carts w a))
-    unfolding plan_in finish_event network_answer
-    answered n e =
-        let p : Plan = plan_in roads carts w a in
+    pub answered : (m : ℕ) → m ≡ length (bounds (plan_in n)) → ◌≡◌ {A = Option Network} (Some (record { events = get_or firsts carts 0 + 1; bounds = m })) (network_answer (Some (plan_in n)))
+    unfolding plan_in finish_event network_answer network_of
+    answered m e =
+        let p : Plan = plan_in n in
         let events : get_or firsts carts 0 + 1 ≡ event_count p = omega (arith, finish_at, events_are p even) in
-        ap₂ (λ (x y : ℕ). Network.Bounds x y) events e
+        ap₂ {C = Option Network} (λ (x y : ℕ). Some (record { events = x; bounds = y })) events e
 
     -- the start bounds
-    starts_are : map start_to (take carts firsts) ≡ start_bounds (routes_of (plan_in roads carts w a))
+    starts_are : map start_to (take carts firsts) ≡ start_bounds (routes_of (plan_in n))
     unfolding plan_in routes_of
     starts_are =
-        let count : carts ≡ length paths = sym (paths_in_length carts w a.cells) in
+        let count : carts ≡ length paths = sym (paths_in_length carts n.paths.steps n.paths.cells.now) in
         ap (map start_to) (sym (take-take carts (suc carts) firsts (omega arith)) ∙ ap (take carts) firsts_are ∙ ap (λ (n : ℕ). take n (firsts_from 1 paths)) count)
-        ∙ starts_by (carts_in carts a.speeds) paths 1 1 even
+        ∙ starts_by (carts_in carts n.speeds.now) paths 1 1 even
 
     -- the finish bounds
     finishes_are : map (finish_before (get_or firsts carts 0)) (take carts (drop 1 firsts))
-        ≡ finish_bounds (finish_event (plan_in roads carts w a)) (routes_of (plan_in roads carts w a))
+        ≡ finish_bounds (finish_event (plan_in n)) (routes_of (plan_in n))
     unfolding plan_in routes_of
     finishes_are =
-        let f : ℕ = finish_event (plan_in roads carts w a) in
-        let count : carts ≡ length paths = sym (paths_in_length carts w a.cells) in
+        let f : ℕ = finish_event (plan_in n) in
+        let count : carts ≡ length paths = sym (paths_in_length carts n.paths.steps n.paths.cells.now) in
         ap (λ (n : ℕ). map (finish_before n) (take carts (drop 1 firsts))) finish_at
         ∙ ap (map (finish_before f)) (
         sym (take-take carts carts (drop 1 firsts) (omega arith)) ∙ ap (take carts) (sym (drop_take carts firsts) ∙ ap (drop 1) firsts_are)
         ∙ ap (λ (n : ℕ). take n (drop 1 (firsts_from 1 paths))) count)
-        ∙ finishes_by f (carts_in carts a.speeds) paths 1 1 even
+        ∙ finishes_by f (carts_in carts n.speeds.now) paths 1 1 even
 
-    -- all bounds, one sort behind the other
-    pub whole_written : (g : Bound → List ℕ) → Pairs g → (s t u v x : List ℕ) (k j : ℕ)
-        → k ≡ carts + 3 * total moves paths → j ≡ k + length (order_bounds (routes_of (of_paths paths)))
-        → t ≡ sets s (2 * 0) (flat_map g (map start_to (take carts firsts)))
-        → u ≡ sets t (2 * carts) (flat_map g (travel_bounds (roads_in roads a.edges) (routes 1 1 (carts_in carts a.speeds) paths)))
-        → v ≡ sets u (2 * k) (flat_map g (order_bounds (routes_of (of_paths paths))))
-        → x ≡ sets v (2 * j) (flat_map g (map (finish_before (get_or firsts carts 0)) (take carts (drop 1 firsts))))
-        → x ≡ sets s 0 (flat_map g (bounds (plan_in roads carts w a)))
+    -- the four sorts put one behind the other are the bounds of the plan
+    pub whole_put : (a b c d e : BoundArrays) (k j : ℕ) → k ≡ carts + 3 * total moves paths → j ≡ k + length (order_bounds (routes_of (of_paths paths)))
+        → Puts a b 0 (map start_to (take carts firsts))
+        → Puts b c carts (travel_bounds (roads_of n.roads) (routes 1 1 (carts_in carts n.speeds.now) paths))
+        → Puts c d k (order_bounds (routes_of (of_paths paths)))
+        → Puts d e j (map (finish_before (get_or firsts carts 0)) (take carts (drop 1 firsts)))
+        → Puts a e 0 (bounds (plan_in n))
     unfolding bounds plan_in routes_of
-    whole_written g p s t u v x k j hk hj one two three four =
-        let q : Plan = plan_in roads carts w a in
+    whole_put a b c d e k j hk hj one two three four =
+        let q : Plan = plan_in n in
         let starts : List Bound = start_bounds (routes_of q) in
         let travel : List Bound = travel_bounds q.roads (routes_of q) in
         let orders : List Bound = order_bounds (routes_of q) in
         let finishes : List Bound = finish_bounds (finish_event q) (routes_of q) in
         let same : length (order_bounds (routes_of (of_paths paths))) ≡ length orders = ap (λ (os : List Bound). length os) orders_are in
-        let a0 : carts ≡ 0 + length starts = omega (arith, start_count (routes_of q), route_count q.carts q.paths 1 1 even, paths_in_length carts w a.cells) in
+        let a0 : carts ≡ 0 + length starts = omega (arith, start_count (routes_of q), route_count q.carts q.paths 1 1 even, paths_in_length carts n.paths.steps n.paths.cells.now) in
         let a1 : k ≡ carts + length travel = omega (arith, hk, travels_count q.roads q.carts q.paths 1 1 even) in
         let a2 : j ≡ k + length orders = omega (arith, hj, same) in
-        four ∙ ap (λ (bs : List Bound). sets v (2 * j) (flat_map g bs)) finishes_are
-        ∙ more_stored g p u v k j orders finishes a2 (three ∙ ap (λ (bs : List Bound). sets u (2 * k) (flat_map g bs)) orders_are)
-        ∙ more_stored g p t u carts k travel (orders ++ finishes) a1 two
-        ∙ more_stored g p s t 0 carts starts (travel ++ (orders ++ finishes)) a0 (one ∙ ap (λ (bs : List Bound). sets s (2 * 0) (flat_map g bs)) starts_are)
+        puts_more a b e 0 carts starts (travel ++ (orders ++ finishes)) (subst (Puts a b 0) starts_are one)
+        (puts_more b c e carts k travel (orders ++ finishes) two
+        (puts_more c d e k j orders finishes (subst (Puts c d k) orders_are three) (subst (Puts d e j) finishes_are four) a2) a1) a0
 
 -- ---- first events
 

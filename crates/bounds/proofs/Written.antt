@@ -1,358 +1,286 @@
 -- The bounds of the plan that a slice holds, written to two arrays: its own, and behind them those that its log adds. Assumes nothing.
-use Prim.Native.Nat.{ℕ, ◌+◌, ◌*◌, ◌-◌, ◌≤◌, ◌<◌, min}
+use Rattle.std.specs.Prelude.{Option, None, Some, Err, Ok, ◌++◌}
+use Prim.Native.Nat.{ℕ, ◌+◌, ◌*◌, ◌≤◌, ◌<◌}
 use native.Mathlib.Omega.{arith}
 use mathlib.Core.Path.{◌≡◌, refl, ap, ap₂, sym, ◌∙◌, subst}
 use mathlib.Core.Bool.{Bool, true, false, ◌&&◌, cond}
 use mathlib.Core.List.Memᴰ
-use mathlib.Core.List.{List, ◌++◌, flat_map}
-use mathlib.Core.Option.{Option, none, some, none-ne-some, some-injective}
+use mathlib.Core.List.{List, []}
 use lib.Dec.{T, leb, leb→le, lit≤}
-use lib.ListN.{length, take, drop, length-append}
-use lib.Seq.{sets}
+use lib.ListN.{length, length-append}
 use mir.Facts.{and_yes}
-use borrow.Author.Tests.{le-leb, lt-leb, leb-true, leb-false}
-use borrow.Rule.Slice.PartMut.{mid_of, put_mid}
-use Rattle.words.proofs.Padding.{padded_length}
-use Rattle.floor.specs.Refusal.{accepted}
-use Rattle.floor.specs.Plan.{Road, Cart, Plan}
+use borrow.Author.Tests.{le-leb, leb-true}
+use Rattle.laws.proofs.Options.{none-ne-some, some-injective}
+use Rattle.tables.specs.declared.Size.{Size}
+use Rattle.tables.specs.Reading.{Arrays}
+use Rattle.std.specs.Option.{option_map}
+use Rattle.floor.specs.Plan.{Plan}
+use Rattle.floor.specs.declared.Road.{Road}
+use Rattle.floor.specs.declared.Cart.{Cart}
 use Rattle.floor.specs.Paths.{steps}
 use Rattle.floor.specs.Tables.{read_tables}
 use Rattle.floor.proofs.Accepted.{Sound}
-use Rattle.tables.specs.Arrays.{road_numbers, cart_numbers, roads_in, carts_in, paths_in}
-use Rattle.tables.proofs.RoadRecords.{roads_held, road_four_numbers}
-use Rattle.tables.proofs.CartRecords.{carts_held, cart_two_numbers}
+use Rattle.tables.specs.Arrays.{roads_in, carts_in, paths_in}
+use Rattle.tables.proofs.RoadRecords.{roads_held}
+use Rattle.tables.proofs.CartRecords.{carts_held}
 use Rattle.tables.proofs.TablesRead.{plan_roads}
-use Rattle.tables.proofs.Turns.{flat_length}
 use Rattle.network.specs.Events.{event_count}
 use Rattle.network.specs.Bounds.{Bound, bounds}
-use Rattle.network.specs.BoundArrays.{bound_ends, bound_range}
+use Rattle.network.specs.BoundArrays.{Puts}
+use Rattle.network.specs.declared.BoundArrays.{BoundArrays}
+use Rattle.network.proofs.Putting.{puts_none, puts_more}
 use Rattle.network.proofs.Routes.{event_count_is}
-use Rattle.network.proofs.BoundStores.{by_ends, by_range, more_stored, part_stored}
 use Rattle.limits.specs.Limits.{of_paths, limits_kept}
 use Rattle.limits.specs.Orders.{events_kept}
 use Rattle.limits.proofs.Counts.{events_are}
 use Rattle.limits.proofs.RowBounds.{of_paths_carts}
-use Rattle.bounds.specs.Network.{plan_in, network_fits, plan_fitting, network_answer, network_bounds}
+use Rattle.bounds.specs.declared.numbers.Numbers.{Numbers}
+use Rattle.bounds.specs.Writing.{roads_of}
+use Rattle.bounds.specs.Network.{plan_in, numbers_of, size_of, holding_of, plan_fitting, network_of, network_answer, network_bounds}
 use Rattle.schedule.specs.Book.{Book, first_book, replay}
-use Rattle.book.specs.declared.Added.{Added}
-use Rattle.book.specs.Log.{log_book, added_of, added_answer}
+use Rattle.book.specs.Log.{added_of, added_answer}
 use Rattle.book.proofs.ByPaths.{events_kept_in}
 use Rattle.schedule.specs.Added.{added_bounds, all_bounds}
 use Rattle.schedule.proofs.Logged.{Logged, logged_kept, bound_ends as ends_below}
 use Rattle.schedule.proofs.Numbers.{added_few}
-use Rattle.slice.specs.PlanSlice.{tables_in, log_in, Held, held}
+use Rattle.slice.specs.PlanSlice.{plan_need, tables_in, log_in, Held, held}
 use Rattle.slice.specs.HeldPlan.{log_of, Lays}
-use Rattle.slice.proofs.Laid.{rest_of}
-use Rattle.slice.proofs.Holds.{over, accepted_laid, no_log, is_held}
-use Rattle.slice.proofs.LaidPlan.{read_laid, sound_laid, paths_laid, book_laid, added_laid}
+use Rattle.slice.specs.declared.Holding.{Holding}
+use Rattle.slice.specs.declared.HoldError.{HoldError}
+use Rattle.slice.specs.Holding.{Answer, laid_into}
+use Rattle.slice.proofs.Holds.{unlaid_none, over, accepted_laid, no_log, is_held}
+use Rattle.slice.proofs.LaidPlan.{blank, never_short, not_laid, read_laid, sound_laid, paths_laid, book_laid, added_laid}
 use Rattle.bounds.specs.declared.Network.{Network}
 use Rattle.bounds.specs.declared.Bounding.{Bounding}
-use Rattle.bounds.specs.Bounding.{bounding, bounds_left, counted, counted_all}
+use Rattle.bounds.specs.Counted.{counted, counted_all, rest_of}
+use Rattle.bounds.specs.Bounding.{bounding_of, bounding_held, bounding, Leaves}
 
 -- ---- the plan in arrays
 
-module _ (s edges speeds cells : List ℕ) (roads carts w reports : ℕ) (h : Lays s edges speeds cells roads carts w reports) where
+-- few roads and carts
+pub few_laid : (s : List ℕ) (a : Arrays) (m : Holding) → Lays s a m → (m.size.roads ≤ 1024) × (m.size.carts ≤ 64)
+few_laid s a m h =
+    let roads : length h.plan_laid.roads ≤ 1024 = plan_roads (tables_in s) h.plan_laid (read_laid s a m h) in
+    let carts : length h.plan_laid.carts ≤ 64 = (sound_laid s a m h).few_carts in
+    (omega (arith, h.roads_are), omega (arith, h.carts_are))
+
+-- where no plan is read none is held
+pub unread : (s : List ℕ) (long : plan_need ≤ length s) (x : Answer) → x ≡ (laid_into s blank).answer
+    → (why : HoldError) → x ≡ Err why → (a : BoundArrays) → (Err why ≡ bounding (held s)) × Leaves (held s) a a
+unfolding bounding bounding_held
+unread s long x is HoldError.TooShort q a = absurd (never_short s long x is q)
+unread s long x is HoldError.NoPlan q a =
+    let none : held s ≡ None = unlaid_none s (not_laid s long x is HoldError.NoPlan q) in
+    (sym (ap bounding none), record { written = []; puts = puts_none a 0 [] refl; are = λ g f. absurd (none-ne-some _ (sym none ∙ f)) })
+
+-- the plan in the arrays of a struct is that in the arrays
+pub lays_of : (s : List ℕ) (n : Numbers) (a : Arrays) (m : Holding) → numbers_of n ≡ a → size_of n ≡ m.size → Lays s a m → Lays s (numbers_of n) (holding_of n m.reports)
+lays_of s n a m e f l =
+    subst (λ (z : Size). Lays s (numbers_of n) (record { size = z; reports = m.reports })) (sym f) (subst (λ (z : Arrays). Lays s z m) (sym e) l)
+
+module _ (s : List ℕ) (n : Numbers) (reports : ℕ) (h : Lays s (numbers_of n) (holding_of n reports)) where
   abbrev its : Plan
   its = h.plan_laid
 
   -- the tables that it is of are read
-  its_read : read_tables (tables_in s) ≡ accepted its
-  its_read = read_laid s edges speeds cells roads carts w reports h
+  its_read : read_tables (tables_in s) ≡ Ok its
+  its_read = read_laid s (numbers_of n) (holding_of n reports) h
 
   its_sound : Sound its
-  its_sound = sound_laid s edges speeds cells roads carts w reports h
+  its_sound = sound_laid s (numbers_of n) (holding_of n reports) h
 
-  its_paths : paths_in carts w cells ≡ its.paths
-  its_paths = paths_laid s edges speeds cells roads carts w reports h
+  its_paths : paths_in n.paths.carts n.paths.steps n.paths.cells.now ≡ its.paths
+  its_paths = paths_laid s (numbers_of n) (holding_of n reports) h
 
   -- so the plan in the arrays is that which is laid out
-  plan_there : plan_in roads carts w (record { edges = edges; speeds = speeds; cells = cells }) ≡ its
+  plan_there : plan_in n ≡ its
   unfolding plan_in
   plan_there =
-      let r : roads_in roads edges ≡ its.roads =
-      ap (λ (n : ℕ). roads_in n edges) h.roads_are ∙ ap (roads_in (length its.roads)) h.edges_are ∙ roads_held 4096 its.roads in
-      let c : carts_in carts speeds ≡ its.carts =
-      ap (λ (n : ℕ). carts_in n speeds) h.carts_are ∙ ap (carts_in (length its.carts)) h.speeds_are ∙ carts_held 128 its.carts its_sound.sound_carts in
-      ap (λ (x : List Road). record { roads = x; carts = carts_in carts speeds; paths = paths_in carts w cells }) r
+      let r : roads_of n.roads ≡ its.roads =
+      ap (λ (m : ℕ). roads_in m n.roads.edges.now) h.roads_are ∙ ap (roads_in (length its.roads)) h.edges_are ∙ roads_held 4096 its.roads in
+      let c : carts_in n.paths.carts n.speeds.now ≡ its.carts =
+      ap (λ (m : ℕ). carts_in m n.speeds.now) h.carts_are ∙ ap (carts_in (length its.carts)) h.speeds_are ∙ carts_held 128 its.carts its_sound.sound_carts in
+      ap (λ (x : List Road). record { roads = x; carts = carts_in n.paths.carts n.speeds.now; paths = paths_in n.paths.carts n.paths.steps n.paths.cells.now }) r
       ∙ ap₂ (λ (x : List Cart) (y : List (List ℕ)). record { roads = its.roads; carts = x; paths = y }) c its_paths
 
-  -- the arrays of roads and carts are long enough
-  edges_long : 4 * roads ≤ length edges
-  edges_long =
-      let few : length its.roads ≤ 1024 = plan_roads (tables_in s) its its_read in
-      let count : length (flat_map road_numbers its.roads) ≡ 4 * length its.roads = flat_length road_numbers 4 road_four_numbers its.roads in
-      let long : length edges ≡ 4096 = ap length h.edges_are ∙ padded_length 4096 (flat_map road_numbers its.roads) (omega arith) in
-      omega (arith, h.roads_are)
-
-  speeds_long : 2 * carts ≤ length speeds
-  speeds_long =
-      let few : length its.carts ≤ 64 = its_sound.few_carts in
-      let count : length (flat_map cart_numbers its.carts) ≡ 2 * length its.carts = flat_length cart_numbers 2 cart_two_numbers its.carts in
-      let long : length speeds ≡ 128 = ap length h.speeds_are ∙ padded_length 128 (flat_map cart_numbers its.carts) (omega arith) in
-      omega (arith, h.carts_are)
-
-  -- and there are not too many roads
-  pub all_there : (roads ≤ 1024) × (4 * roads ≤ length edges) × (2 * carts ≤ length speeds)
-  all_there = (omega (arith, h.roads_are, plan_roads (tables_in s) its its_read), edges_long, speeds_long)
+  -- the limits of paths and events
+  abbrev kept_events : Bool
+  kept_events = events_kept n.paths.carts n.paths.steps n.paths.cells.now
 
   -- the plan in the arrays fits, where it does, and is this one
-  fits_by : (t : Bool) → network_fits roads carts w (record { edges = edges; speeds = speeds; cells = cells }) ≡ t
-      → plan_fitting roads carts w (record { edges = edges; speeds = speeds; cells = cells }) ≡ cond t (some its) none
+  fits_by : (t : Bool) → kept_events ≡ t → plan_fitting n ≡ cond t (Some its) None
   unfolding plan_fitting
-  fits_by t q =
-      ap₂ {C = Option Plan} (λ (x : Bool) (y : Plan). cond x (some y) none) q plan_there
+  fits_by t q = ap₂ {C = Option Plan} (λ (x : Bool) (y : Plan). cond x (Some y) None) q plan_there
 
   -- within the limits it fits
-  plan_fits : limits_kept its ≡ true → plan_fitting roads carts w (record { edges = edges; speeds = speeds; cells = cells }) ≡ some its
-  unfolding network_fits
+  plan_fits : limits_kept its ≡ true → plan_fitting n ≡ Some its
   plan_fits kept =
-      let events : events_kept carts w cells ≡ true =
-      ap (λ (n : ℕ). events_kept n w cells) h.carts_are
-      ∙ ap (λ (n : ℕ). events_kept (length its.carts) n cells) h.steps_are
+      fits_by true (ap (λ (m : ℕ). events_kept m n.paths.steps n.paths.cells.now) h.carts_are
+      ∙ ap (λ (m : ℕ). events_kept (length its.carts) m n.paths.cells.now) h.steps_are
       ∙ ap (events_kept (length its.carts) (steps its.paths)) h.cells_are
-      ∙ (events_kept_in (tables_in s) its its_read kept 8192 (lit≤ tt)).0 in
-      fits_by true (simp (le-leb roads 1024 all_there.0, le-leb (4 * roads) (length edges) edges_long, le-leb (2 * carts) (length speeds) speeds_long, events))
+      ∙ (events_kept_in (tables_in s) its its_read kept 8192 (lit≤ tt)).0)
 
   -- one that fits keeps the limit of events
-  fitting_events : network_fits roads carts w (record { edges = edges; speeds = speeds; cells = cells }) ≡ true → event_count its ≤ 4096
-  unfolding network_fits events_kept of_paths
+  fitting_events : kept_events ≡ true → event_count its ≤ 4096
+  unfolding events_kept of_paths
   fitting_events q =
-      let kept : T (events_kept carts w cells) = (and_yes (leb roads 1024 && leb (4 * roads) (length edges) && leb (2 * carts) (length speeds)) (events_kept carts w cells) (subst T (sym q) tt)).1 in
-      let few : T (leb (event_count (of_paths (paths_in carts w cells))) 4096) =
-      (and_yes (leb carts 64 && leb 1 w && leb w 1024 && leb (carts * w) (length cells)) (leb (event_count (of_paths (paths_in carts w cells))) 4096) kept).1 in
+      let few : T (leb (event_count (of_paths (paths_in n.paths.carts n.paths.steps n.paths.cells.now))) 4096) =
+      (and_yes (leb n.paths.carts 64 && leb 1 n.paths.steps && leb n.paths.steps 1024 && leb (n.paths.carts * n.paths.steps) (length n.paths.cells.now)) (leb (event_count (of_paths (paths_in n.paths.carts n.paths.steps n.paths.cells.now))) 4096) (subst T (sym q) tt)).1 in
       let count : event_count its ≡ event_count (of_paths its.paths) =
       events_are its (sym its_sound.path_each) ∙ sym (events_are (of_paths its.paths) (of_paths_carts its.paths)) in
       omega (arith, count, leb→le (event_count (of_paths its.paths)) 4096 (subst (λ (x : List (List ℕ)). T (leb (event_count (of_paths x)) 4096)) its_paths few))
 
--- ---- one behind the other
+  -- ---- what is answered and left
 
--- what a log adds behind k bounds is stored there, as far as two arrays go
-module _ (s cells : List ℕ) (n carts w k : ℕ) (e r : List ℕ)
-    (log times : List ℕ) (is-log : log ≡ take n (drop 196_608 s)) (is-times : times ≡ take (length s) (drop 200_704 s)) (i j : ℕ) (i-is : i ≡ min (2 * k) (length e)) (j-is : j ≡ min (2 * k) (length r)) where
-  abbrev part_e : List ℕ
-  part_e = mid_of i (length e - i) e
+  -- the arrays were a and are z
+  abbrev pub Wrote : Option Bounding → BoundArrays → BoundArrays → Type 0
+  Wrote x a z = (x ≡ bounding_held (held s)) × Leaves (held s) a z
 
-  abbrev part_r : List ℕ
-  part_r = mid_of j (length r - j) r
-
-  abbrev of_log : Option Book
-  of_log = log_book carts w cells log times
-
-  log_is : of_log ≡ log_of s n cells carts w
-  unfolding log_of
-  log_is = ap₂ (log_book carts w cells) is-log (is-times ∙ rest_of s 200_704)
-
-  pub log_left : (y : Added) (u v : List ℕ)
-      → (y ≡ added_answer (of_paths (paths_in carts w cells)) of_log)
-      × ((u ≡ sets part_e 0 (flat_map bound_ends (added_of (of_paths (paths_in carts w cells)) of_log)))
-      × (v ≡ sets part_r 0 (flat_map bound_range (added_of (of_paths (paths_in carts w cells)) of_log))))
-      → (y ≡ added_answer (of_paths (paths_in carts w cells)) (log_of s n cells carts w))
-      × ((put_mid i (length e - i) e u ≡ sets e (2 * k) (flat_map bound_ends (added_of (of_paths (paths_in carts w cells)) (log_of s n cells carts w))))
-      × (put_mid j (length r - j) r v ≡ sets r (2 * k) (flat_map bound_range (added_of (of_paths (paths_in carts w cells)) (log_of s n cells carts w)))))
-  log_left y u v z =
-      let p : Plan = of_paths (paths_in carts w cells) in (
-        z.0 ∙ ap (added_answer p) log_is,
-        (
-          part_stored (flat_map bound_ends (added_of p (log_of s n cells carts w))) e u (2 * k) i i-is (z.1.0 ∙ ap (λ (o : Option Book). sets part_e 0 (flat_map bound_ends (added_of p o))) log_is),
-          part_stored (flat_map bound_range (added_of p (log_of s n cells carts w))) r v (2 * k) j j-is (z.1.1 ∙ ap (λ (o : Option Book). sets part_r 0 (flat_map bound_range (added_of p o))) log_is),
-        ),
-      )
-
--- ---- what is answered and left
-
--- two arrays that were e and r and are t and u, where a plan is held
-abbrev pub Wrote : Option Held → Bounding → List ℕ → List ℕ → List ℕ → List ℕ → Type 0
-Wrote o x e r t u =
-    (x ≡ bounding o) × (((h : Held) → o ≡ some h → t ≡ bounds_left bound_ends (some h) e) × ((h : Held) → o ≡ some h → u ≡ bounds_left bound_range (some h) r))
-
--- none is
-pub none_held : (o : Option Held) (e r t u : List ℕ) → o ≡ none → Wrote o Bounding.NoPlan e r t u
-unfolding bounding
-none_held o e r t u q = (sym (ap bounding q), (λ h f. absurd (none-ne-some _ (sym q ∙ f)), λ h f. absurd (none-ne-some _ (sym q ∙ f))))
-
-module _ (s edges speeds cells : List ℕ) (roads carts w reports : ℕ) (h : Lays s edges speeds cells roads carts w reports) (e r : List ℕ) where
-  abbrev pl : Plan
-  pl = h.plan_laid
-
-  abbrev fitting : Option Plan
-  fitting = plan_fitting roads carts w (record { edges = edges; speeds = speeds; cells = cells })
+  -- none is held
+  none_held : (a z : BoundArrays) (bs : List Bound) → Puts a z 0 bs → held s ≡ None → Wrote None a z
+  unfolding bounding_held
+  none_held a z bs p q =
+      (sym (ap bounding_held q), record { written = bs; puts = p; are = λ g f. absurd (none-ne-some _ (sym q ∙ f)) })
 
   -- its own bounds are written first
-  module _ (x : Network) (e1 r1 : List ℕ)
-      (x-is : x ≡ network_answer fitting)
-      (e1-is : e1 ≡ sets e 0 (flat_map bound_ends (network_bounds fitting)))
-      (r1-is : r1 ≡ sets r 0 (flat_map bound_range (network_bounds fitting))) where
-    -- whether they are there
-    there : Network → ℕ
-    there Network.Unfit = 0
-    there (Network.Bounds n m) = 1
-
+  module _ (x : Option Network) (a b : BoundArrays) (x-is : x ≡ network_answer (plan_fitting n)) (own-put : Puts a b 0 (network_bounds (plan_fitting n))) where
     -- they don't fit: the limits are passed
-    pub own_unfit : x ≡ Network.Unfit → (t u : List ℕ) → Wrote (held s) Bounding.NoPlan e r t u
-    unfolding network_answer there
-    own_unfit q t u = none_held (held s) e r t u (by (limits_kept pl) refl)
+    pub own_unfit : x ≡ None → Wrote None a b
+    unfolding network_answer
+    own_unfit q = none_held a b _ own-put (by (limits_kept its) refl)
       where
-        by : (b : Bool) → limits_kept pl ≡ b → held s ≡ none
-        by false k = over s pl h.of_slice k
-        by true k =
-            let z : ◌≡◌ {A = ℕ} 0 1 = ap there (sym q ∙ x-is ∙ ap network_answer (plan_fits s edges speeds cells roads carts w reports h k)) in absurd (omega arith)
+        by : (t : Bool) → limits_kept its ≡ t → held s ≡ None
+        by false k = over s its h.of_slice k
+        by true k = let z : ◌≡◌ {A = Option Network} None (Some (network_of its)) = sym q ∙ x-is ∙ ap network_answer (plan_fits k) in absurd (none-ne-some _ z)
 
-    -- how many events and bounds there are
-    module _ (n own : ℕ) (q : x ≡ Network.Bounds n own) where
-      fit : network_fits roads carts w (record { edges = edges; speeds = speeds; cells = cells }) ≡ true
-      unfolding network_answer there
-      fit = by (network_fits roads carts w (record { edges = edges; speeds = speeds; cells = cells })) refl
-        where
-          by : (b : Bool) → network_fits roads carts w (record { edges = edges; speeds = speeds; cells = cells }) ≡ b
-              → network_fits roads carts w (record { edges = edges; speeds = speeds; cells = cells }) ≡ true
-          by true k = k
-          by false k =
-              let z : ◌≡◌ {A = ℕ} 1 0 = ap there (sym q ∙ x-is ∙ ap network_answer (fits_by s edges speeds cells roads carts w reports h false k)) in absurd (omega arith)
-
-      fits : fitting ≡ some pl
-      fits = fits_by s edges speeds cells roads carts w reports h true fit
-
-      told : Network.Bounds n own ≡ Network.Bounds (event_count pl) (length (bounds pl))
+    -- so many events and bounds there are
+    module _ (own : Network) (q : x ≡ Some own) where
+      fit : kept_events ≡ true
       unfolding network_answer
-      told = sym q ∙ x-is ∙ ap network_answer fits
+      fit = by kept_events refl
+        where
+          by : (t : Bool) → kept_events ≡ t → kept_events ≡ true
+          by true k = k
+          by false k = let z : ◌≡◌ {A = Option Network} None (Some own) = sym (ap network_answer (fits_by false k)) ∙ sym x-is ∙ q in absurd (none-ne-some _ z)
 
-      events_told : n ≡ event_count pl
-      events_told = ap (λ (y : Network). elim y [ Network.Unfit ↦ 0 | Network.Bounds a c ↦ a ]) told
+      fits : plan_fitting n ≡ Some its
+      fits = fits_by true fit
 
-      own_are : own ≡ length (bounds pl)
-      own_are = ap (λ (y : Network). elim y [ Network.Unfit ↦ 0 | Network.Bounds a c ↦ c ]) told
+      own_is : own ≡ network_of its
+      unfolding network_answer
+      own_is = some-injective _ _ (sym q ∙ x-is ∙ ap network_answer fits)
+
+      own_are : own.bounds ≡ length (bounds its)
+      unfolding network_of
+      own_are = ap (λ (y : Network). y.bounds) own_is
+
+      events_are_told : own.events ≡ event_count its
+      unfolding network_of
+      events_are_told = ap (λ (y : Network). y.events) own_is
+
+      own_written : Puts a b 0 (bounds its)
+      unfolding network_bounds
+      own_written = subst (λ (o : Option Plan). Puts a b 0 (network_bounds o)) fits own-put
 
       -- the limits are kept by their number
-      kept_by : (b : Bool) → leb (length (bounds pl)) 8192 ≡ b → limits_kept pl ≡ b
+      kept_by : (t : Bool) → leb own.bounds 8192 ≡ t → limits_kept its ≡ t
       unfolding limits_kept
-      kept_by b k =
-          ap₂ {C = Bool} ◌&&◌ (le-leb (event_count pl) 4096 (fitting_events s edges speeds cells roads carts w reports h fit)) k
+      kept_by t k = ap₂ {C = Bool} ◌&&◌ (le-leb (event_count its) 4096 (fitting_events fit)) (ap (λ (m : ℕ). leb m 8192) (sym own_are) ∙ k)
 
-      -- too many
-      own_over : 8192 < own → (t u : List ℕ) → Wrote (held s) Bounding.NoPlan e r t u
-      own_over k t u = none_held (held s) e r t u (over s pl h.of_slice (kept_by false (lt-leb (length (bounds pl)) 8192 (omega (arith, own_are)))))
-
-      -- what is then in the arrays
-      own_written : e1 ≡ sets e 0 (flat_map bound_ends (bounds pl))
-      unfolding network_bounds
-      own_written = e1-is ∙ ap (λ (o : Option Plan). sets e 0 (flat_map bound_ends (network_bounds o))) fits
-
-      own_ranges : r1 ≡ sets r 0 (flat_map bound_range (bounds pl))
-      unfolding network_bounds
-      own_ranges = r1-is ∙ ap (λ (o : Option Plan). sets r 0 (flat_map bound_range (network_bounds o))) fits
-
-      -- ---- not too many, and behind them what the log adds
-
-      module _ (few : own ≤ 8192) (y : Added) (e2 r2 : List ℕ)
-          (y-is : y ≡ added_answer (of_paths (paths_in carts w cells)) (log_of s reports cells carts w))
-          (e2-is : e2 ≡ sets e1 (2 * own) (flat_map bound_ends (added_of (of_paths (paths_in carts w cells)) (log_of s reports cells carts w))))
-          (r2-is : r2 ≡ sets r1 (2 * own) (flat_map bound_range (added_of (of_paths (paths_in carts w cells)) (log_of s reports cells carts w)))) where
-        kept : limits_kept pl ≡ true
-        kept = kept_by true (le-leb (length (bounds pl)) 8192 (omega (arith, own_are)))
-
-        -- the book of the log in the slice
-        book_is : log_of s reports cells carts w ≡ replay pl (first_book pl) (log_in s)
-        unfolding log_of
-        book_is = book_laid s edges speeds cells roads carts w reports h kept
-
-        -- whether there is one
-        counts : Added → ℕ
-        counts Added.NoBook = 0
-        counts (Added.Count k) = 1
-
-        -- there is none
-        no_book : y ≡ Added.NoBook → (t u : List ℕ) → Wrote (held s) Bounding.NoPlan e r t u
-        unfolding added_answer counts
-        no_book z t u = none_held (held s) e r t u (by (replay pl (first_book pl) (log_in s)) refl)
-          where
-            by : (o : Option Book) → replay pl (first_book pl) (log_in s) ≡ o → held s ≡ none
-            by none k = no_log s pl h.of_slice kept k
-            by (some b) k =
-                let z : ◌≡◌ {A = ℕ} 0 1 = ap counts (sym z ∙ y-is ∙ ap (added_answer (of_paths (paths_in carts w cells))) (book_is ∙ k)) in absurd (omega arith)
-
-        -- so many are added
-        module _ (more : ℕ) (z : y ≡ Added.Count more) where
-          bk : (b : Book) × (replay pl (first_book pl) (log_in s) ≡ some b)
-          unfolding added_answer counts
-          bk = by (replay pl (first_book pl) (log_in s)) refl
-            where
-              by : (o : Option Book) → replay pl (first_book pl) (log_in s) ≡ o → (b : Book) × (replay pl (first_book pl) (log_in s) ≡ some b)
-              by none k =
-                  let z : ◌≡◌ {A = ℕ} 1 0 = ap counts (sym z ∙ y-is ∙ ap (added_answer (of_paths (paths_in carts w cells))) (book_is ∙ k)) in absurd (omega arith)
-              by (some b) k = (b, k)
-
-          adds : added_of (of_paths (paths_in carts w cells)) (log_of s reports cells carts w) ≡ added_bounds pl bk.0
-          unfolding added_of
-          adds = ap (added_of (of_paths (paths_in carts w cells))) (book_is ∙ bk.1) ∙ added_laid s edges speeds cells roads carts w reports h bk.0
-
-          many : more ≡ length (added_bounds pl bk.0)
-          unfolding added_answer
-          many =
-              ap (λ (a : Added). elim a [ Added.NoBook ↦ 0 | Added.Count k ↦ k ]) (sym z ∙ y-is ∙ ap (added_answer (of_paths (paths_in carts w cells))) (book_is ∙ bk.1))
-              ∙ ap length (added_laid s edges speeds cells roads carts w reports h bk.0)
-
-          logged : Logged pl bk.0
-          logged = record { tables = tables_in s; of_tables = accepted_laid s pl h.of_slice kept; log = log_in s; replayed = bk.1 }
-
-          -- how many there are in all
-          more_few : own + more ≤ 12_288
-          unfolding all_bounds
-          more_few =
-              let events : event_count pl ≤ 4096 = fitting_events s edges speeds cells roads carts w reports h fit in
-              let added : length (added_bounds pl bk.0) < event_count pl =
-              added_few pl bk.0 (logged_kept pl bk.0 logged) (event_count pl) (omega (arith, event_count_is pl))
-              (λ c m. (ends_below pl bk.0 logged c (Memᴰ.append_right (bounds pl) m)).1) in
-              omega (arith, few, many, added, events)
-
-          -- what is then in the arrays
-          both_written : Wrote (held s) (Bounding.Bounds n own (own + more)) e r e2 r2
-          unfolding bounding bounds_left all_bounds
-          both_written =
-              let is : held s ≡ some (record { tables = tables_in s; log = log_in s; plan = pl; book = bk.0 }) = is_held s pl h.of_slice kept bk.0 bk.1 in
-              let all : own + more ≡ length (bounds pl ++ added_bounds pl bk.0) = omega (arith, own_are, many, length-append (bounds pl) (added_bounds pl bk.0)) in
-              let left : e2 ≡ sets e 0 (flat_map bound_ends (bounds pl ++ added_bounds pl bk.0)) =
-              e2-is ∙ ap (λ (l : List Bound). sets e1 (2 * own) (flat_map bound_ends l)) adds
-              ∙ more_stored bound_ends by_ends e e1 0 own (bounds pl) (added_bounds pl bk.0) (omega (arith, own_are)) own_written in
-              let ranges : r2 ≡ sets r 0 (flat_map bound_range (bounds pl ++ added_bounds pl bk.0)) =
-              r2-is ∙ ap (λ (l : List Bound). sets r1 (2 * own) (flat_map bound_range l)) adds
-              ∙ more_stored bound_range by_range r r1 0 own (bounds pl) (added_bounds pl bk.0) (omega (arith, own_are)) own_ranges in (
-                ap (λ (k : ℕ). Bounding.Bounds k own (own + more)) events_told ∙ ap₂ (Bounding.Bounds (event_count pl)) own_are all ∙ sym (ap bounding is),
-                (
-                  λ g f. left ∙ ap (λ (o : Held). sets e 0 (flat_map bound_ends (all_bounds o.plan o.book))) (some-injective _ _ (sym is ∙ f)),
-                  λ g f. ranges ∙ ap (λ (o : Held). sets r 0 (flat_map bound_range (all_bounds o.plan o.book))) (some-injective _ _ (sym is ∙ f)),
-                ),
-              )
-
-      -- ---- the two together
+      -- ---- and behind them those of the log
 
       abbrev its_log : Option Book
-      its_log = log_of s reports cells carts w
+      its_log = log_of s reports n.paths
 
       abbrev by_paths : Plan
-      by_paths = of_paths (paths_in carts w cells)
+      by_paths = of_paths (paths_in n.paths.carts n.paths.steps n.paths.cells.now)
+
+      abbrev its_book : Option Book
+      its_book = replay its (first_book its) (log_in s)
+
+      module _ (few : leb own.bounds 8192 ≡ true) where
+        kept : limits_kept its ≡ true
+        kept = kept_by true few
+
+        -- the book of the log in the slice
+        book_is : its_log ≡ its_book
+        unfolding log_of
+        book_is = book_laid s (numbers_of n) (holding_of n reports) h kept
+
+        module _ (b1 : Book) (k : its_book ≡ Some b1) where
+          adds : added_of by_paths its_log ≡ added_bounds its b1
+          unfolding added_of
+          adds = ap (added_of by_paths) (book_is ∙ k) ∙ added_laid s (numbers_of n) (holding_of n reports) h b1
+
+          logged : Logged its b1
+          logged = record { tables = tables_in s; of_tables = accepted_laid s its h.of_slice kept; log = log_in s; replayed = k }
+
+          -- how many there are in all
+          more_few : own.bounds + length (added_bounds its b1) ≤ 12_288
+          unfolding all_bounds
+          more_few =
+              let events : event_count its ≤ 4096 = fitting_events fit in
+              let added : length (added_bounds its b1) < event_count its =
+              added_few its b1 (logged_kept its b1 logged) (event_count its) (omega (arith, event_count_is its))
+              (λ c m. (ends_below its b1 logged c (Memᴰ.append_right (bounds its) m)).1) in
+              omega (arith, leb-true own.bounds 8192 few, added, events)
+
+          -- what is answered
+          both_told : counted_all own (added_answer by_paths its_log) ≡ bounding_held (held s)
+          unfolding counted_all counted added_answer bounding_held bounding_of all_bounds
+          both_told =
+              let is : held s ≡ Some (record { tables = tables_in s; log = log_in s; plan = its; book = b1 }) = is_held s its h.of_slice kept b1 k in
+              let more : length (added_bounds by_paths b1) ≡ length (added_bounds its b1) = ap length (added_laid s (numbers_of n) (holding_of n reports) h b1) in
+              let all : own.bounds + length (added_bounds by_paths b1) ≡ length (bounds its ++ added_bounds its b1) = omega (arith, own_are, more, length-append (bounds its) (added_bounds its b1)) in
+              ap₂ {C = Option Bounding} (λ (t : Bool) (o : Option ℕ). cond t (option_map (counted own) o) None) few (ap (added_answer by_paths) (book_is ∙ k))
+              ∙ ap₂ {C = Option Bounding} (λ (e o : ℕ). Some (record { events = e; own = o; all = own.bounds + length (added_bounds by_paths b1) })) events_are_told own_are
+              ∙ ap {B = Option Bounding} (λ (m : ℕ). Some (record { events = event_count its; own = length (bounds its); all = m })) all
+              ∙ sym (ap bounding_held is)
+
+          -- what is left
+          both_left : (c : BoundArrays) → Puts b c own.bounds (added_bounds its b1) → Leaves (held s) a c
+          unfolding all_bounds
+          both_left c p =
+              let is : held s ≡ Some (record { tables = tables_in s; log = log_in s; plan = its; book = b1 }) = is_held s its h.of_slice kept b1 k in record {
+                written = bounds its ++ added_bounds its b1;
+                puts = puts_more a b c 0 own.bounds (bounds its) (added_bounds its b1) own_written p (omega (arith, own_are));
+                are = λ g f. ap (λ (o : Held). all_bounds o.plan o.book) (some-injective _ _ (sym is ∙ f));
+              }
 
       -- how many there are in all
-      pub rest_few : own ≤ 8192 → own + length (added_of by_paths its_log) ≤ 12_288
-      unfolding added_of added_answer
-      rest_few few = by its_log refl
+      pub rest_few : own.bounds ≤ 8192 → own.bounds + length (added_of by_paths its_log) ≤ 12_288
+      unfolding added_of
+      rest_few l = by its_book refl
         where
-          by : (o : Option Book) → its_log ≡ o → own + length (added_of by_paths its_log) ≤ 12_288
-          by none k = let no_more : length (added_of by_paths its_log) ≡ 0 = ap (λ (o : Option Book). length (added_of by_paths o)) k in omega arith
-          by (some b) k =
-              let more : length (added_of by_paths its_log) ≡ length (added_bounds by_paths b) = ap (λ (o : Option Book). length (added_of by_paths o)) k in
-              omega (arith, more, more_few few (added_answer by_paths its_log) _ _ refl refl refl (length (added_bounds by_paths b)) (ap (added_answer by_paths) k))
+          few : leb own.bounds 8192 ≡ true
+          few = le-leb own.bounds 8192 l
+
+          by : (o : Option Book) → its_book ≡ o → own.bounds + length (added_of by_paths its_log) ≤ 12_288
+          by None k = let no_more : length (added_of by_paths its_log) ≡ 0 = ap (λ (o : Option Book). length (added_of by_paths o)) (book_is few ∙ k) in omega arith
+          by (Some b1) k = let more : length (added_of by_paths its_log) ≡ length (added_bounds its b1) = ap length (adds few b1 k) in omega (arith, more, more_few few b1 k)
 
       -- what is answered and left
-      pub rest_written : (z : Bounding) (e2 r2 : List ℕ) → z ≡ counted_all n own (added_answer by_paths its_log)
-          → (own ≤ 8192 → e2 ≡ sets e1 (2 * own) (flat_map bound_ends (added_of by_paths its_log)))
-          → (own ≤ 8192 → r2 ≡ sets r1 (2 * own) (flat_map bound_range (added_of by_paths its_log))) → Wrote (held s) z e r e2 r2
-      unfolding counted_all counted
-      rest_written z e2 r2 z-is e2-is r2-is = subst (λ (b : Bounding). Wrote (held s) b e r e2 r2) (sym z-is) (by (leb own 8192) refl)
+      pub rest_written : (z : Option Bounding) (c : BoundArrays) → z ≡ counted_all own (added_answer by_paths its_log)
+          → Puts b c own.bounds (rest_of own (added_of by_paths its_log)) → Wrote z a c
+      unfolding counted_all rest_of added_answer
+      rest_written z c z-is put = subst (λ (y : Option Bounding). Wrote y a c) (sym z-is) (by (leb own.bounds 8192) refl)
         where
-          among : own ≤ 8192 → (y : Added) → y ≡ added_answer by_paths its_log → Wrote (held s) (counted n own y) e r e2 r2
-          among few Added.NoBook k = no_book few Added.NoBook e2 r2 k (e2-is few) (r2-is few) refl e2 r2
-          among few (Added.Count more) k = both_written few (Added.Count more) e2 r2 k (e2-is few) (r2-is few) more refl
+          all_put : Puts a c 0 (bounds its ++ rest_of own (added_of by_paths its_log))
+          all_put = puts_more a b c 0 own.bounds (bounds its) _ own_written put (omega (arith, own_are))
 
-          by : (t : Bool) → leb own 8192 ≡ t → Wrote (held s) (cond t (counted n own (added_answer by_paths its_log)) Bounding.NoPlan) e r e2 r2
-          by true k = among (leb-true own 8192 k) (added_answer by_paths its_log) refl
-          by false k = own_over (leb-false own 8192 k) e2 r2
+          among : (few : leb own.bounds 8192 ≡ true) (o : Option Book) → its_book ≡ o → Wrote (counted_all own (added_answer by_paths its_log)) a c
+          among few None k =
+              let nothing : counted_all own (added_answer by_paths its_log) ≡ None =
+              ap₂ {C = Option Bounding} (λ (t : Bool) (i : Option ℕ). cond t (option_map (counted own) i) None) few (ap (added_answer by_paths) (book_is few ∙ k)) in
+              subst (λ (y : Option Bounding). Wrote y a c) (sym nothing) (none_held a c _ all_put (no_log s its h.of_slice (kept few) k))
+          among few (Some b1) k = (
+            both_told few b1 k,
+            both_left few b1 k c (subst (Puts b c own.bounds) (ap (λ (t : Bool). cond t (added_of by_paths its_log) []) few ∙ adds few b1 k) put),
+          )
+
+          by : (t : Bool) → leb own.bounds 8192 ≡ t → Wrote (counted_all own (added_answer by_paths its_log)) a c
+          by true k = among k its_book refl
+          by false k =
+              let nothing : counted_all own (added_answer by_paths its_log) ≡ None =
+              ap {B = Option Bounding} (λ (t : Bool). cond t (option_map (counted own) (added_answer by_paths its_log)) None) k in
+              subst (λ (y : Option Bounding). Wrote y a c) (sym nothing) (none_held a c _ all_put (over s its h.of_slice (kept_by false k)))

@@ -1,4 +1,5 @@
 pub mod Links
-pub mod Network
 pub mod Writing
+pub mod Network
+pub mod Counted
 pub mod Bounding

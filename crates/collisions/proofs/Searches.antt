@@ -1,5 +1,6 @@
 -- Searches in arrays: carts held against those before them, step by step.
 -- Assumes nothing.
+use Rattle.std.specs.Prelude.{Option, None, Some}
 use Prim.Native.Nat.{ℕ, zero, suc, ◌+◌, ◌*◌, ◌-◌, ◌≤◌, ◌<◌}
 use native.Mathlib.Numerals.{add-one}
 use native.Mathlib.Nat.{mul-le-mul_right, add-mul, zero-mul, suc-mul}
@@ -7,11 +8,11 @@ use native.Mathlib.Omega.{arith}
 use mathlib.Core.Path.{◌≡◌, refl, ap, sym, ◌∙◌}
 use mathlib.Core.Bool.{Bool, true, false, true≢false, ◌&&◌, ◌||◌, cond}
 use mathlib.Core.List.{List, [], map}
-use mathlib.Core.Option.{Option, none, some, some-ne-none}
 use borrow.Author.Tests.{eq-eqb, ne_eqb, eqb-true, eqb-false}
 use lib.Dec.{eqb}
 use lib.ListN.{length, take, drop, get_or, length-take, drop_of_length-le}
 use lib.Seq.{length-take-le, take-suc, drop-cons, get_or-take, get_or-drop, drop-drop}
+use Rattle.laws.proofs.Options.{some-ne-none}
 use Rattle.floor.specs.Refusal.{next}
 use Rattle.floor.specs.Paths.{collides, first_collision, earliest, at_step, same_cell, steps, first_same_cell, Move, exchanged}
 use Rattle.collisions.specs.Meetings.{paths_in}
@@ -52,7 +53,7 @@ module _ {A : Type 0} {xs : List A} {n : ℕ} {at : ℕ → A} (f : A → A → 
 
   -- the one at place i, tested, and those after it
   first_next : (i : ℕ) (t : Bool) → i < n → collides f (at i) (take i xs) ≡ t
-      → first_collision f (take i xs) (drop i xs) ≡ cond t (some (i + 1)) (first_collision f (take (i + 1) xs) (drop (i + 1) xs))
+      → first_collision f (take i xs) (drop i xs) ≡ cond t (Some (i + 1)) (first_collision f (take (i + 1) xs) (drop (i + 1) xs))
   unfolding first_collision next
   first_next i t h e =
       let below : i < length xs = omega (arith, v.count) in
@@ -70,7 +71,7 @@ module _ {A : Type 0} {xs : List A} {n : ℕ} {at : ℕ → A} (f : A → A → 
 
   -- one that collides with the one at place k is found
   pub record_found : (i k : ℕ) → k < i → i < n → collides f (at i) (take i xs) ≡ collides f (at i) (drop k (take i xs)) → f (at i) (at k) ≡ true
-      → first_collision f (take i xs) (drop i xs) ≡ some (i + 1)
+      → first_collision f (take i xs) (drop i xs) ≡ Some (i + 1)
   record_found i k l h e met = first_next i true h (e ∙ collides_next i k true l h met)
 
   -- one that collides with none of those before it passes them all
@@ -82,17 +83,17 @@ module _ {A : Type 0} {xs : List A} {n : ℕ} {at : ℕ → A} (f : A → A → 
       ∙ ap (λ (m : ℕ). collides f (at i) (drop m (take i xs))) (add-one k)
 
   -- where no first collision is found, none is found after the first i
-  none_after : first_collision f [] xs ≡ none → (i : ℕ) → i ≤ n → first_collision f (take i xs) (drop i xs) ≡ none
+  none_after : first_collision f [] xs ≡ None → (i : ℕ) → i ≤ n → first_collision f (take i xs) (drop i xs) ≡ None
   none_after e zero l = e
   none_after e (suc i) l = by (collides f (at i) (take i xs)) refl (none_after e i (omega arith))
     where
-      by : (t : Bool) → collides f (at i) (take i xs) ≡ t → first_collision f (take i xs) (drop i xs) ≡ none
-          → first_collision f (take (suc i) xs) (drop (suc i) xs) ≡ none
+      by : (t : Bool) → collides f (at i) (take i xs) ≡ t → first_collision f (take i xs) (drop i xs) ≡ None
+          → first_collision f (take (suc i) xs) (drop (suc i) xs) ≡ None
       by true q none_yet = absurd (some-ne-none _ (sym (first_next i true l q) ∙ none_yet))
       by false q none_yet = ap (λ (m : ℕ). first_collision f (take m xs) (drop m xs)) (sym (add-one i)) ∙ sym (first_next i false l q) ∙ none_yet
 
   -- the one at place i collides with none of those before it from place k on
-  none_left : first_collision f [] xs ≡ none → (i k : ℕ) → i < n → k ≤ i → collides f (at i) (drop k (take i xs)) ≡ false
+  none_left : first_collision f [] xs ≡ None → (i k : ℕ) → i < n → k ≤ i → collides f (at i) (drop k (take i xs)) ≡ false
   none_left e i zero h l = by (collides f (at i) (take i xs)) refl
     where
       by : (t : Bool) → collides f (at i) (take i xs) ≡ t → t ≡ false
@@ -105,7 +106,7 @@ module _ {A : Type 0} {xs : List A} {n : ℕ} {at : ℕ → A} (f : A → A → 
       by false q rest = ap (λ (m : ℕ). collides f (at i) (drop m (take i xs))) (sym (add-one k)) ∙ sym (collides_next i k false (omega arith) h q) ∙ rest
 
   -- nor with the one at place k
-  pub none_with : first_collision f [] xs ≡ none → (i k : ℕ) → i < n → k < i → f (at i) (at k) ≡ false
+  pub none_with : first_collision f [] xs ≡ None → (i k : ℕ) → i < n → k < i → f (at i) (at k) ≡ false
   none_with e i k h l = by (f (at i) (at k)) refl
     where
       by : (t : Bool) → f (at i) (at k) ≡ t → t ≡ false
@@ -113,7 +114,7 @@ module _ {A : Type 0} {xs : List A} {n : ℕ} {at : ℕ → A} (f : A → A → 
       by false q = refl
 
   -- after the last
-  pub records_past : (i : ℕ) → n ≤ i → first_collision f (take i xs) (drop i xs) ≡ none
+  pub records_past : (i : ℕ) → n ≤ i → first_collision f (take i xs) (drop i xs) ≡ None
   unfolding first_collision
   records_past i h =
       let none_left : drop i xs ≡ [] = drop_of_length-le xs {i = i} (omega (arith, v.count)) in
@@ -123,42 +124,42 @@ module _ {A : Type 0} {xs : List A} {n : ℕ} {at : ℕ → A} (f : A → A → 
 
 -- one step, and those after it
 earliest_next : (f : ℕ → Option ℕ) (s n : ℕ) (o : Option ℕ) → f s ≡ o
-    → ◌≡◌ {A = Option ℕ} (earliest f s (suc n)) (elim o [ none ↦ earliest f (suc s) n | some i ↦ some i ])
+    → ◌≡◌ {A = Option ℕ} (earliest f s (suc n)) (elim o [ None ↦ earliest f (suc s) n | Some i ↦ Some i ])
 unfolding earliest
-earliest_next f s n o e = ap (λ (x : Option ℕ). elim x as (λ _. Option ℕ) [ none ↦ earliest f (suc s) n | some i ↦ some i ]) e
+earliest_next f s n o e = ap (λ (x : Option ℕ). elim x as (λ _. Option ℕ) [ None ↦ earliest f (suc s) n | Some i ↦ Some i ]) e
 
 -- a step at which nothing is found is passed over
-pub step_passed : (f : ℕ → Option ℕ) (s n : ℕ) → f s ≡ none → earliest f s (n - s) ≡ earliest f (s + 1) (n - (s + 1))
+pub step_passed : (f : ℕ → Option ℕ) (s n : ℕ) → f s ≡ None → earliest f s (n - s) ≡ earliest f (s + 1) (n - (s + 1))
 unfolding earliest
 step_passed f s n e = by (n - s) refl
   where
     by : (m : ℕ) → n - s ≡ m → earliest f s m ≡ earliest f (s + 1) (n - (s + 1))
     by zero q = let z : n - (s + 1) ≡ 0 = omega arith in rw z
-    by (suc m) q = let z : n - (s + 1) ≡ m = omega arith in rw (z, add-one) (earliest_next f s m none e)
+    by (suc m) q = let z : n - (s + 1) ≡ m = omega arith in rw (z, add-one) (earliest_next f s m None e)
 
 -- what is found at a step is the answer
-pub step_found : (f : ℕ → Option ℕ) (s n i : ℕ) → s < n → f s ≡ some i → earliest f s (n - s) ≡ some i
+pub step_found : (f : ℕ → Option ℕ) (s n i : ℕ) → s < n → f s ≡ Some i → earliest f s (n - s) ≡ Some i
 unfolding earliest
-step_found f s n i h e = let z : n - s ≡ suc (n - (s + 1)) = omega arith in rw z (earliest_next f s (n - (s + 1)) (some i) e)
+step_found f s n i h e = let z : n - s ≡ suc (n - (s + 1)) = omega arith in rw z (earliest_next f s (n - (s + 1)) (Some i) e)
 
 -- after the last step
-pub steps_over : (f : ℕ → Option ℕ) (s n : ℕ) → n ≤ s → earliest f s (n - s) ≡ none
+pub steps_over : (f : ℕ → Option ℕ) (s n : ℕ) → n ≤ s → earliest f s (n - s) ≡ None
 unfolding earliest
 steps_over f s n h = let z : n - s ≡ 0 = omega arith in rw z
 
 -- where nothing is found from a step on, nothing is found there
-none_at : (f : ℕ → Option ℕ) (n s : ℕ) → s < n → earliest f s (n - s) ≡ none → f s ≡ none
+none_at : (f : ℕ → Option ℕ) (n s : ℕ) → s < n → earliest f s (n - s) ≡ None → f s ≡ None
 none_at f n s h e = by (f s) refl
   where
-    by : (o : Option ℕ) → f s ≡ o → f s ≡ none
-    by none q = q
-    by (some i) q = absurd (some-ne-none _ (sym (step_found f s n i h q) ∙ e))
+    by : (o : Option ℕ) → f s ≡ o → f s ≡ None
+    by None q = q
+    by (Some i) q = absurd (some-ne-none _ (sym (step_found f s n i h q) ∙ e))
 
 -- where nothing is found, nothing is found from any step on
-none_later : (f : ℕ → Option ℕ) (n : ℕ) → earliest f 0 n ≡ none → (s : ℕ) → s ≤ n → earliest f s (n - s) ≡ none
+none_later : (f : ℕ → Option ℕ) (n : ℕ) → earliest f 0 n ≡ None → (s : ℕ) → s ≤ n → earliest f s (n - s) ≡ None
 none_later f n e zero l = let all : n - 0 ≡ n = omega arith in ap (earliest f 0) all ∙ e
 none_later f n e (suc s) l =
-    let before : earliest f s (n - s) ≡ none = none_later f n e s (omega arith) in
+    let before : earliest f s (n - s) ≡ None = none_later f n e s (omega arith) in
     ap (λ (m : ℕ). earliest f m (n - m)) (sym (add-one s)) ∙ sym (step_passed f s n (none_at f n s l before)) ∙ before
 
 -- ---- what the paths of an array have at a step
@@ -236,25 +237,25 @@ unfolding exchanged
 moves_pass a b x y h = both_fail a b y x (λ p q. h (sym p) (sym q))
 
 -- a step is passed over, the steps counted from 1
-pub step_to_passed : (f : ℕ → Option ℕ) (s n : ℕ) → 1 ≤ s → f (s - 1) ≡ none
+pub step_to_passed : (f : ℕ → Option ℕ) (s n : ℕ) → 1 ≤ s → f (s - 1) ≡ None
     → earliest f (s - 1) (n - (s - 1)) ≡ earliest f (s + 1 - 1) (n - (s + 1 - 1))
 step_to_passed f s n least e =
     let one : s - 1 + 1 ≡ s + 1 - 1 = omega arith in
     step_passed f (s - 1) n e ∙ ap (λ (j : ℕ). earliest f j (n - j)) one
 
 -- no two carts are in one cell at a step
-cells_apart : (n w : ℕ) (s : List ℕ) → n * w ≤ length s → first_same_cell (paths_in n w s) ≡ none → (t i k : ℕ) → t < w → i < n → k < i
+cells_apart : (n w : ℕ) (s : List ℕ) → n * w ≤ length s → first_same_cell (paths_in n w s) ≡ None → (t i k : ℕ) → t < w → i < n → k < i
     → get_or s (i * w + t) 0 ≡ get_or s (k * w + t) 0 → ⊥
 unfolding first_same_cell same_cell
 cells_apart n w s fits e t i k h l m =
     let all : steps (paths_in n w s) ≡ w = steps_all n w s (omega arith) fits in
     let within : t < steps (paths_in n w s) = omega arith in
-    let none_here : same_cell (paths_in n w s) t ≡ none =
+    let none_here : same_cell (paths_in n w s) t ≡ None =
     none_at (same_cell (paths_in n w s)) (steps (paths_in n w s)) t within (none_later _ _ e t (omega arith)) in
     eqb-false _ _ (none_with eqb (cells_placed n w s t h) none_here i k l m)
 
 -- so a cart that stays exchanges cells with none of those before it
-pub stays_alone : (n w : ℕ) (s : List ℕ) → n * w ≤ length s → first_same_cell (paths_in n w s) ≡ none → (t i : ℕ) → 1 ≤ t → t < w → i < n
+pub stays_alone : (n w : ℕ) (s : List ℕ) → n * w ≤ length s → first_same_cell (paths_in n w s) ≡ None → (t i : ℕ) → 1 ≤ t → t < w → i < n
     → get_or s (i * w + t - 1) 0 ≡ get_or s (i * w + t) 0
     → collides exchanged (record { before = get_or s (i * w + t - 1) 0; after = get_or s (i * w + t) 0 }) (take i (moves_at n w s (t - 1)))
     ≡ collides exchanged (record { before = get_or s (i * w + t - 1) 0; after = get_or s (i * w + t) 0 }) (drop i (take i (moves_at n w s (t - 1))))

@@ -1,5 +1,6 @@
 -- What is known of a plan that was read from three tables without a refusal: its counts, its ranges, and that no two carts meet in a cell.
 -- Assumes nothing.
+use Rattle.std.specs.Prelude.{Option, None, Some, Ok}
 use Prim.Native.Nat.{ℕ, zero, suc, ◌+◌, ◌*◌, ◌≤◌, ◌<◌}
 use native.Mathlib.Omega.{arith}
 use mathlib.Core.Path.{◌≡◌, refl, ap, sym, ◌∙◌, subst}
@@ -7,18 +8,20 @@ use mathlib.Core.Logic.{◌≢◌, ◌⊎◌, ⊎_elim}
 use mathlib.Core.Bool.{Bool, true, false, true≢false, ◌&&◌, ◌||◌, not, cond}
 use mathlib.Core.List.Memᴰ
 use mathlib.Core.List.{List, [], ◌∷◌, ◌++◌, map, append_assoc, Memᴰ}
-use mathlib.Core.Option.{Option, none, some, none-ne-some, some-ne-none, some-injective}
 use lib.Dec.{T, leb, eqb, leb→le, ltb→lt, eqb→eq, eqb_refl}
 use lib.ListN.{length, get_or, length-append, length-map, get_or-append, get_or-map}
 use mir.Facts.{and_yes}
+use Rattle.laws.proofs.Options.{none-ne-some, some-ne-none, some-injective}
 use Rattle.rfc4180.specs.Text.{bytes}
 use Rattle.rfc4180.specs.Records.{records, fields}
 use Rattle.rfc4180.specs.Number.{number, numbers}
 use Rattle.rfc4180.proofs.Reading.{some_field}
 use Rattle.floor.specs.declared.Reason.TheVariants.{Layout, Range, RoadPair, Limit, NoCarts, PathCount, OffRoad, SameCell, Exchange}
 use Rattle.floor.specs.declared.Table.TheVariants.{Roads, Carts, Paths}
-use Rattle.floor.specs.Refusal.{accepted, within_bytes, after_first_line, next, records_in_order}
-use Rattle.floor.specs.Plan.{Road, Cart, Plan, joined}
+use Rattle.floor.specs.Refusal.{within_bytes, after_first_line, next, records_in_order}
+use Rattle.floor.specs.Plan.{Plan, joined}
+use Rattle.floor.specs.declared.Road.{Road}
+use Rattle.floor.specs.declared.Cart.{Cart}
 use Rattle.floor.specs.Roads.{cell_range, road_ranges, road, read_roads}
 use Rattle.floor.specs.Carts.{number_or_empty, fastest_range, slowest_range, cart, read_carts}
 use Rattle.floor.specs.Paths.{cells_range, same_width, path, read_paths, on_roads, off_road, collides, first_collision, earliest, at_step, same_cell, steps, first_same_cell, first_exchange}
@@ -66,7 +69,7 @@ ranges_sound d t =
     }
 
 -- so of a record that is taken for a road
-road_sound : (before : List Road) (r : List ℕ) (d : Road) → road before r ≡ accepted d → SoundRoad d
+road_sound : (before : List Road) (r : List ℕ) (d : Road) → road before r ≡ Ok d → SoundRoad d
 unfolding road
 road_sound before r d e =
     let (ns, _, e1) = and_given_accepted (numbers (fields r)) Layout Roads _ _ d e in
@@ -78,7 +81,7 @@ road_sound before r d e =
     subst SoundRoad (accepted_same n d e5) (ranges_sound n t)
 
 -- of the whole table
-read_roads_sound : (b : List ℕ) (ds : List Road) → read_roads b ≡ accepted ds → Each SoundRoad ds
+read_roads_sound : (b : List ℕ) (ds : List Road) → read_roads b ≡ Ok ds → Each SoundRoad ds
 unfolding read_roads
 read_roads_sound b ds e =
     let (_, _, e1) = bind_accepted (within_bytes Roads b) _ ds e in
@@ -90,13 +93,13 @@ read_roads_sound b ds e =
 -- "fastest 1,000..20,000,000, slowest 1,000..fastest or empty"
 pub record SoundCart (c : Cart) : Type 0 where
   pub fast : 1000 ≤ c.fastest
-  pub slow : (s : ℕ) → c.slowest ≡ some s → (1000 ≤ s) × (s ≤ c.fastest)
+  pub slow : (s : ℕ) → c.slowest ≡ Some s → (1000 ≤ s) × (s ≤ c.fastest)
 
 -- the test of the slowest speed, read back
-slowest_sound : (f : ℕ) (o : Option ℕ) → T (slowest_range f o) → (s : ℕ) → o ≡ some s → (1000 ≤ s) × (s ≤ f)
+slowest_sound : (f : ℕ) (o : Option ℕ) → T (slowest_range f o) → (s : ℕ) → o ≡ Some s → (1000 ≤ s) × (s ≤ f)
 unfolding slowest_range
-slowest_sound f none t s e = absurd (none-ne-some _ e)
-slowest_sound f (some x) t s e =
+slowest_sound f None t s e = absurd (none-ne-some _ e)
+slowest_sound f (Some x) t s e =
     let (least, most) = and_yes (leb 1000 x) (leb x f) t in
     let q : x ≡ s = some-injective _ _ e in
     (subst (λ (y : ℕ). 1000 ≤ y) q (leb→le 1000 x least), subst (λ (y : ℕ). y ≤ f) q (leb→le x f most))
@@ -109,7 +112,7 @@ speeds_sound f s t =
     record { fast = leb→le 1000 f (and_yes (leb 1000 f) _ fast).0; slow = slowest_sound f s slow }
 
 -- so of a record that is taken for a cart, which is at most the 64th
-pub cart_sound : (before : List Cart) (r : List ℕ) (c : Cart) → cart before r ≡ accepted c → SoundCart c × (suc (length before) ≤ 64)
+pub cart_sound : (before : List Cart) (r : List ℕ) (c : Cart) → cart before r ≡ Ok c → SoundCart c × (suc (length before) ≤ 64)
 unfolding cart next
 cart_sound before r c e =
     let fs : List (List ℕ) = fields r in
@@ -124,42 +127,42 @@ cart_sound before r c e =
 abbrev FewCarts : List Cart → Type 0
 FewCarts cs = Each SoundCart cs × (length cs ≤ 64)
 
-one_cart_more : (before : List Cart) (r : List ℕ) (c : Cart) → FewCarts before → cart before r ≡ accepted c → FewCarts (before ++ (c ∷ []))
+one_cart_more : (before : List Cart) (r : List ℕ) (c : Cart) → FewCarts before → cart before r ≡ Ok c → FewCarts (before ++ (c ∷ []))
 one_cart_more before r c h one =
     let (good, few) = cart_sound before r c one in
     (each_more SoundCart before c h.0 good, omega (arith, length-append before (c ∷ []), few))
 
 -- of the whole table, which has a cart
-pub read_carts_sound : (b : List ℕ) (cs : List Cart) → read_carts b ≡ accepted cs → Each SoundCart cs × (length cs ≤ 64) × (1 ≤ length cs)
+pub read_carts_sound : (b : List ℕ) (cs : List Cart) → read_carts b ≡ Ok cs → Each SoundCart cs × (length cs ≤ 64) × (1 ≤ length cs)
 unfolding read_carts
 read_carts_sound b cs e =
     let (_, _, e1) = bind_accepted (within_bytes Carts b) _ cs e in
     let (rs, _, e2) = bind_accepted (after_first_line (bytes "fastest,slowest") Carts (records b)) _ cs e1 in
     let (all, from, e3) = bind_accepted (records_in_order cart [] rs) _ cs e2 in
-    let (t, e4) = then_accepted (leb 1 (length all)) NoCarts Carts 0 (accepted all) cs e3 in
+    let (t, e4) = then_accepted (leb 1 (length all)) NoCarts Carts 0 (Ok all) cs e3 in
     let (good, few) = kept_in_order cart FewCarts one_cart_more rs [] all (each_none SoundCart, omega arith) from in
     subst (λ (x : List Cart). Each SoundCart x × (length x ≤ 64) × (1 ≤ length x)) (accepted_same all cs e4) (good, few, leb→le _ _ t)
 
 -- ---- paths
 
 -- as many numbers as fields
-numbers_length : (fs : List (List ℕ)) (ns : List ℕ) → numbers fs ≡ some ns → length ns ≡ length fs
+numbers_length : (fs : List (List ℕ)) (ns : List ℕ) → numbers fs ≡ Some ns → length ns ≡ length fs
 unfolding numbers
 numbers_length [] ns e = ap length (sym (some-injective _ _ e))
 numbers_length (f ∷ fs) ns e = by (number f) (numbers fs) (numbers_length fs) e
   where
-    by : (o : Option ℕ) (q : Option (List ℕ)) → ((ms : List ℕ) → q ≡ some ms → length ms ≡ length fs)
-        → elim o [ none ↦ none | some n ↦ elim q [ none ↦ none | some ms ↦ some (n ∷ ms) ] ] ≡ some ns → length ns ≡ suc (length fs)
-    by none q h e = absurd (none-ne-some _ e)
-    by (some n) none h e = absurd (none-ne-some _ e)
-    by (some n) (some ms) h e = ap length (sym (some-injective _ _ e)) ∙ ap suc (h ms refl)
+    by : (o : Option ℕ) (q : Option (List ℕ)) → ((ms : List ℕ) → q ≡ Some ms → length ms ≡ length fs)
+        → elim o [ None ↦ None | Some n ↦ elim q [ None ↦ None | Some ms ↦ Some (n ∷ ms) ] ] ≡ Some ns → length ns ≡ suc (length fs)
+    by None q h e = absurd (none-ne-some _ e)
+    by (Some n) None h e = absurd (none-ne-some _ e)
+    by (Some n) (Some ms) h e = ap length (sym (some-injective _ _ e)) ∙ ap suc (h ms refl)
 
 -- as many cells as there are steps, and at least one
 abbrev pub Wide : List (List ℕ) → List ℕ → Type 0
 Wide all q = (length q ≡ steps all) × (1 ≤ length q)
 
 -- a record that is taken for a path is as wide as the first before it, and within the limits
-pub path_sound : (before : List (List ℕ)) (r q : List ℕ) → path before r ≡ accepted q
+pub path_sound : (before : List (List ℕ)) (r q : List ℕ) → path before r ≡ Ok q
     → T (same_width before (length q)) × (1 ≤ length q) × (length q ≤ 1024) × (next before * length q ≤ 8192)
 unfolding path
 path_sound before r q e =
@@ -198,7 +201,7 @@ unfolding steps
 even_none = record { wide = each_none (Wide []); few_steps = omega arith; few_cells = omega arith }
 
 -- one path more
-pub even_more : (before : List (List ℕ)) (r q : List ℕ) → Even before → path before r ≡ accepted q → Even (before ++ (q ∷ []))
+pub even_more : (before : List (List ℕ)) (r q : List ℕ) → Even before → path before r ≡ Ok q → Even (before ++ (q ∷ []))
 unfolding next
 even_more before r q h one =
     let (same, some-cell, few, room) = path_sound before r q one in
@@ -211,42 +214,42 @@ even_more before r q h one =
     }
 
 -- of all paths
-pub in_order_even : (rs ps : List (List ℕ)) → records_in_order path [] rs ≡ accepted ps → Even ps
+pub in_order_even : (rs ps : List (List ℕ)) → records_in_order path [] rs ≡ Ok ps → Even ps
 in_order_even rs ps e = kept_in_order path Even even_more rs [] ps even_none e
 
 -- of the whole table, which has as many paths as there are carts
-pub read_paths_sound : (carts : ℕ) (b : List ℕ) (ps : List (List ℕ)) → read_paths carts b ≡ accepted ps → Even ps × (length ps ≡ carts)
+pub read_paths_sound : (carts : ℕ) (b : List ℕ) (ps : List (List ℕ)) → read_paths carts b ≡ Ok ps → Even ps × (length ps ≡ carts)
 unfolding read_paths
 read_paths_sound carts b ps e =
     let (_, _, e1) = bind_accepted (within_bytes Paths b) _ ps e in
     let (all, from, e2) = bind_accepted (records_in_order path [] (records b)) _ ps e1 in
-    let (t, e3) = then_accepted (eqb (length all) carts) PathCount Paths 0 (accepted all) ps e2 in
+    let (t, e3) = then_accepted (eqb (length all) carts) PathCount Paths 0 (Ok all) ps e2 in
     subst (λ (x : List (List ℕ)). Even x × (length x ≡ carts)) (accepted_same all ps e3) (in_order_even (records b) all from, eqb→eq (length all) carts t)
 
 -- ---- what two carts or a cart and the roads may not do
 
 -- no path leaves the roads
-none_off_road : (roads : List Road) (i : ℕ) (ps : List (List ℕ)) → off_road roads i ps ≡ none → Each (λ (q : List ℕ). T (on_roads roads q)) ps
+none_off_road : (roads : List Road) (i : ℕ) (ps : List (List ℕ)) → off_road roads i ps ≡ None → Each (λ (q : List ℕ). T (on_roads roads q)) ps
 unfolding off_road
 none_off_road roads i [] e q m = absurd (Memᴰ.not-nil m)
 none_off_road roads i (p ∷ ps) e q m = by (on_roads roads p) refl (none_off_road roads (suc i) ps) e (Memᴰ.cases_cons m)
   where
-    by : (t : Bool) → on_roads roads p ≡ t → (off_road roads (suc i) ps ≡ none → Each (λ (q : List ℕ). T (on_roads roads q)) ps)
-        → cond t (off_road roads (suc i) ps) (some i) ≡ none → (q ≡ p) ⊎ Memᴰ q ps → T (on_roads roads q)
+    by : (t : Bool) → on_roads roads p ≡ t → (off_road roads (suc i) ps ≡ None → Each (λ (q : List ℕ). T (on_roads roads q)) ps)
+        → cond t (off_road roads (suc i) ps) (Some i) ≡ None → (q ≡ p) ⊎ Memᴰ q ps → T (on_roads roads q)
     by true on rest e c = ⊎_elim (λ q-is. subst (λ (x : List ℕ). T (on_roads roads x)) (sym q-is) (subst T (sym on) tt)) (rest e q) c
     by false on rest e c = absurd (some-ne-none _ e)
 
 -- a search that finds nothing finds nothing at any step
-none_earliest : (f : ℕ → Option ℕ) (n s i : ℕ) → earliest f s n ≡ none → i < n → f (s + i) ≡ none
+none_earliest : (f : ℕ → Option ℕ) (n s i : ℕ) → earliest f s n ≡ None → i < n → f (s + i) ≡ None
 unfolding earliest
 none_earliest f zero s i e l = absurd (omega arith)
 none_earliest f (suc n) s i e l = by (f s) refl e i l (none_earliest f n (suc s))
   where
-    by : (o : Option ℕ) → f s ≡ o → ◌≡◌ {A = Option ℕ} (elim o [ none ↦ earliest f (suc s) n | some i ↦ some i ]) none
-        → (i : ℕ) → i < suc n → ((i : ℕ) → earliest f (suc s) n ≡ none → i < n → f (suc s + i) ≡ none) → f (s + i) ≡ none
-    by none h e zero l rest = subst (λ (t : ℕ). f t ≡ none) (omega arith) h
-    by none h e (suc i) l rest = subst (λ (t : ℕ). f t ≡ none) (omega arith) (rest i e (omega arith))
-    by (some x) h e i l rest = absurd (some-ne-none _ e)
+    by : (o : Option ℕ) → f s ≡ o → ◌≡◌ {A = Option ℕ} (elim o [ None ↦ earliest f (suc s) n | Some i ↦ Some i ]) None
+        → (i : ℕ) → i < suc n → ((i : ℕ) → earliest f (suc s) n ≡ None → i < n → f (suc s + i) ≡ None) → f (s + i) ≡ None
+    by None h e zero l rest = subst (λ (t : ℕ). f t ≡ None) (omega arith) h
+    by None h e (suc i) l rest = subst (λ (t : ℕ). f t ≡ None) (omega arith) (rest i e (omega arith))
+    by (Some x) h e i l rest = absurd (some-ne-none _ e)
 
 -- one that collides with none of those before it collides with no one of them
 none_collides : {A : Type 0} (f : A → A → Bool) (x d : A) (ys : List A) (i : ℕ) → collides f x ys ≡ false → i < length ys → f x (get_or ys i d) ≡ false
@@ -261,7 +264,7 @@ none_collides f x d (y ∷ ys) i e l = by (f x y) refl i l e (none_collides f x 
     by false h (suc i) l e rest = rest i e (omega arith)
 
 -- where no first collision is found, no one collides with one before it
-none_collide : {A : Type 0} (f : A → A → Bool) (d : A) (xs before : List A) (i j : ℕ) → first_collision f before xs ≡ none
+none_collide : {A : Type 0} (f : A → A → Bool) (d : A) (xs before : List A) (i j : ℕ) → first_collision f before xs ≡ None
     → i < length before + j → j < length xs → f (get_or xs j d) (get_or (before ++ xs) i d) ≡ false
 unfolding first_collision
 none_collide f d [] before i j e l k = absurd (omega arith)
@@ -272,14 +275,14 @@ none_collide f d (x ∷ xs) before i zero e l k = by (collides f x before) refl 
         ap (f x) (get_or-append before (x ∷ xs) d i (omega arith))
         ∙ none_collides f x d before i h (omega arith)
 
-    by : (t : Bool) → collides f x before ≡ t → cond t (some (next before)) (first_collision f (before ++ (x ∷ [])) xs) ≡ none
+    by : (t : Bool) → collides f x before ≡ t → cond t (Some (next before)) (first_collision f (before ++ (x ∷ [])) xs) ≡ None
         → f x (get_or (before ++ (x ∷ xs)) i d) ≡ false
     by true h e = absurd (some-ne-none _ e)
     by false h e = here h
 none_collide {A} f d (x ∷ xs) before i (suc j) e l k = by (collides f x before) e (λ h. none_collide f d xs (before ++ (x ∷ [])) i j h)
   where
-    by : (t : Bool) → cond t (some (next before)) (first_collision f (before ++ (x ∷ [])) xs) ≡ none
-        → (first_collision f (before ++ (x ∷ [])) xs ≡ none → i < length (before ++ (x ∷ [])) + j → j < length xs
+    by : (t : Bool) → cond t (Some (next before)) (first_collision f (before ++ (x ∷ [])) xs) ≡ None
+        → (first_collision f (before ++ (x ∷ [])) xs ≡ None → i < length (before ++ (x ∷ [])) + j → j < length xs
         → f (get_or xs j d) (get_or (before ++ (x ∷ []) ++ xs) i d) ≡ false)
         → f (get_or xs j d) (get_or (before ++ (x ∷ xs)) i d) ≡ false
     by true e rest = absurd (some-ne-none _ e)
@@ -288,7 +291,7 @@ none_collide {A} f d (x ∷ xs) before i (suc j) e l k = by (collides f x before
         (rest e (omega (arith, length-append before (x ∷ []))) (omega arith))
 
 -- "two carts in one cell at one step": none are
-none_meet : (ps : List (List ℕ)) → first_same_cell ps ≡ none → (i j s : ℕ) → i < j → j < length ps → s < steps ps
+none_meet : (ps : List (List ℕ)) → first_same_cell ps ≡ None → (i j s : ℕ) → i < j → j < length ps → s < steps ps
     → at_step s (get_or ps i []) ≢ at_step s (get_or ps j [])
 unfolding first_same_cell same_cell
 none_meet ps e i j s a b c q = subst T no yes
@@ -299,8 +302,8 @@ none_meet ps e i j s a b c q = subst T no yes
     at : (n : ℕ) → get_or cells n (at_step s []) ≡ at_step s (get_or ps n [])
     at n = get_or-map (at_step s) ps n []
 
-    found : same_cell ps s ≡ none
-    found = subst (λ (n : ℕ). same_cell ps n ≡ none) (omega arith) (none_earliest (same_cell ps) (steps ps) 0 s e c)
+    found : same_cell ps s ≡ None
+    found = subst (λ (n : ℕ). same_cell ps n ≡ None) (omega arith) (none_earliest (same_cell ps) (steps ps) 0 s e c)
 
     no : eqb (get_or cells j (at_step s [])) (get_or cells i (at_step s [])) ≡ false
     no = none_collide eqb (at_step s []) cells [] i j found (omega arith) (omega (arith, length-map ps (at_step s), b))
@@ -324,7 +327,7 @@ pub record Sound (p : Plan) : Type 0 where
       → at_step s (get_or p.paths i []) ≢ at_step s (get_or p.paths j [])
 
 -- tables without a refusal up to 9 give a sound plan: each of the steps of `read_tables` accepted
-pub accepted_sound : (ts : Tables) (p : Plan) → read_tables ts ≡ accepted p → Sound p
+pub accepted_sound : (ts : Tables) (p : Plan) → read_tables ts ≡ Ok p → Sound p
 unfolding read_tables
 accepted_sound ts p e =
     let (rs, er, e1) = bind_accepted (read_roads ts.roads) _ p e in
@@ -349,7 +352,7 @@ accepted_sound ts p e =
     })
 
 -- its paths are of one width, and within the limits of steps and cells
-pub accepted_even : (ts : Tables) (p : Plan) → read_tables ts ≡ accepted p → Even p.paths
+pub accepted_even : (ts : Tables) (p : Plan) → read_tables ts ≡ Ok p → Even p.paths
 unfolding read_tables
 accepted_even ts p e =
     let (rs, _, e1) = bind_accepted (read_roads ts.roads) _ p e in

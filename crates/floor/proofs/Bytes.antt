@@ -1,19 +1,22 @@
 -- An accepted table has no zero byte and at most 65,536 bytes. Assumes nothing.
+use Rattle.std.specs.Prelude.{Option, None, Some, Ok}
 use Prim.Native.Nat.{ℕ, ◌≤◌}
 use native.Mathlib.Omega.{arith}
 use mathlib.Core.Path.{◌≡◌, refl, sym, subst}
 use mathlib.Core.List.{List, [], ◌∷◌, ◌++◌}
-use mathlib.Core.Option.{Option, none, some, none-ne-some}
 use lib.Dec.{leb, leb→le, eqb, eqb→eq}
 use lib.ListN.{length, get_or}
+use Rattle.laws.proofs.Options.{none-ne-some}
 use Rattle.rfc4180.specs.Text.{bytes, same}
 use Rattle.rfc4180.specs.Records.{records, fields}
 use Rattle.rfc4180.specs.Number.{number, numbers}
 use Rattle.rfc4180.proofs.Text.{same_equal}
 use Rattle.rfc4180.proofs.Bytes.{NoZero, NoZeros, no_zero_is, records_nonzero, fields_nonzero, number_nonzero, numbers_nonzero}
 use Rattle.floor.specs.declared.Table.{Table}
-use Rattle.floor.specs.Refusal.{Judged, accepted, within_bytes, after_first_line, records_in_order}
-use Rattle.floor.specs.Plan.{Road, Cart, Plan}
+use Rattle.floor.specs.Refusal.{Judged, within_bytes, after_first_line, records_in_order}
+use Rattle.floor.specs.Plan.{Plan}
+use Rattle.floor.specs.declared.Road.{Road}
+use Rattle.floor.specs.declared.Cart.{Cart}
 use Rattle.floor.specs.Roads.{road, read_roads}
 use Rattle.floor.specs.Carts.{number_or_empty, cart, read_carts}
 use Rattle.floor.specs.Paths.{path, read_paths}
@@ -27,21 +30,21 @@ abbrev pub Fine : List ℕ → Type 0
 Fine t = NoZero t × (length t ≤ 65_536)
 
 -- a table taken is within its bytes
-within : (t : Table) (b : List ℕ) (u : Unit {0}) → within_bytes t b ≡ accepted u → length b ≤ 65_536
+within : (t : Table) (b : List ℕ) (u : Unit {0}) → within_bytes t b ≡ Ok u → length b ≤ 65_536
 unfolding within_bytes
 within t b u e = leb→le (length b) 65_536 (need_accepted (leb (length b) 65_536) _ t 0 u e)
 
 -- the first line is fixed, so a zero byte lies after it
-first_line_nonzero : (line : List ℕ) (t : Table) (rs rest : List (List ℕ)) → after_first_line line t rs ≡ accepted rest → NoZero line → NoZeros rest → NoZeros rs
+first_line_nonzero : (line : List ℕ) (t : Table) (rs rest : List (List ℕ)) → after_first_line line t rs ≡ Ok rest → NoZero line → NoZeros rest → NoZeros rs
 unfolding after_first_line
 first_line_nonzero line t [] rest e n ns = absurd (refused_not_accepted _ rest e)
 first_line_nonzero line t (r ∷ rs) rest e n ns =
-    let (fixed, kept) = then_accepted (same line r) _ t 0 (accepted rs) rest e in
+    let (fixed, kept) = then_accepted (same line r) _ t 0 (Ok rs) rest e in
     (subst NoZero (same_equal line r fixed) n, subst NoZeros (sym (accepted_same rs rest kept)) ns)
 
 -- a zero byte lies in no record that is taken
-taken_nonzero : {A : Type 0} (judge : List A → List ℕ → Judged A) → ((before : List A) (r : List ℕ) (a : A) → judge before r ≡ accepted a → NoZero r)
-    → (rs : List (List ℕ)) (before all : List A) → records_in_order judge before rs ≡ accepted all → NoZeros rs
+taken_nonzero : {A : Type 0} (judge : List A → List ℕ → Judged A) → ((before : List A) (r : List ℕ) (a : A) → judge before r ≡ Ok a → NoZero r)
+    → (rs : List (List ℕ)) (before all : List A) → records_in_order judge before rs ≡ Ok all → NoZeros rs
 unfolding records_in_order
 taken_nonzero judge each [] before all e = tt
 taken_nonzero {A} judge each (r ∷ rs) before all e =
@@ -51,7 +54,7 @@ taken_nonzero {A} judge each (r ∷ rs) before all e =
 -- ---- roads
 
 -- an accepted record is all numbers
-road_nonzero : (before : List Road) (r : List ℕ) (d : Road) → road before r ≡ accepted d → NoZero r
+road_nonzero : (before : List Road) (r : List ℕ) (d : Road) → road before r ≡ Ok d → NoZero r
 unfolding road
 road_nonzero before r d e = let (ns, there, rest) = and_given_accepted (numbers (fields r)) _ _ _ _ d e in fields_nonzero r (numbers_nonzero (fields r) ns there)
 
@@ -61,7 +64,7 @@ unfolding bytes
 roads_line = no_zero_is (bytes "from,to,length,margin") tt
 
 -- an accepted table of roads
-pub roads_fine : (b : List ℕ) (rs : List Road) → read_roads b ≡ accepted rs → Fine b
+pub roads_fine : (b : List ℕ) (rs : List Road) → read_roads b ≡ Ok rs → Fine b
 unfolding read_roads
 roads_fine b ds e =
     let (u, short, judged) = bind_accepted (within_bytes _ b) _ ds e in
@@ -71,14 +74,14 @@ roads_fine b ds e =
 -- ---- carts
 
 -- a number or nothing
-number_or_empty_nonzero : (f : List ℕ) (o : Option ℕ) → number_or_empty f ≡ some o → NoZero f
+number_or_empty_nonzero : (f : List ℕ) (o : Option ℕ) → number_or_empty f ≡ Some o → NoZero f
 unfolding number_or_empty
 number_or_empty_nonzero [] o e = tt
 number_or_empty_nonzero (b ∷ bs) o e = by (number (b ∷ bs)) refl e
   where
-    by : (n : Option ℕ) → number (b ∷ bs) ≡ n → elim n [ none ↦ none | some x ↦ some (some x) ] ≡ some o → NoZero (b ∷ bs)
-    by none q e = absurd (none-ne-some _ e)
-    by (some x) q e = number_nonzero (b ∷ bs) x q
+    by : (n : Option ℕ) → number (b ∷ bs) ≡ n → elim n [ None ↦ None | Some x ↦ Some (Some x) ] ≡ Some o → NoZero (b ∷ bs)
+    by None q e = absurd (none-ne-some _ e)
+    by (Some x) q e = number_nonzero (b ∷ bs) x q
 
 -- two fields are the first and the second
 two_fields : (fs : List (List ℕ)) → length fs ≡ 2 → NoZero (get_or fs 0 []) → NoZero (get_or fs 1 []) → NoZeros fs
@@ -88,7 +91,7 @@ two_fields (f ∷ g ∷ []) e a b = (a, (b, tt))
 two_fields (f ∷ g ∷ h ∷ fs) e a b = absurd (omega (arith, e))
 
 -- an accepted record is a number, and a number or nothing
-cart_nonzero : (before : List Cart) (r : List ℕ) (c : Cart) → cart before r ≡ accepted c → NoZero r
+cart_nonzero : (before : List Cart) (r : List ℕ) (c : Cart) → cart before r ≡ Ok c → NoZero r
 unfolding cart
 cart_nonzero before r c e =
     let fs : List (List ℕ) = fields r in
@@ -103,7 +106,7 @@ unfolding bytes
 carts_line = no_zero_is (bytes "fastest,slowest") tt
 
 -- an accepted table of carts
-pub carts_fine : (b : List ℕ) (cs : List Cart) → read_carts b ≡ accepted cs → Fine b
+pub carts_fine : (b : List ℕ) (cs : List Cart) → read_carts b ≡ Ok cs → Fine b
 unfolding read_carts
 carts_fine b cs e =
     let (u, short, judged) = bind_accepted (within_bytes _ b) _ cs e in
@@ -114,12 +117,12 @@ carts_fine b cs e =
 -- ---- paths
 
 -- an accepted record is all numbers
-path_nonzero : (before : List (List ℕ)) (r : List ℕ) (p : List ℕ) → path before r ≡ accepted p → NoZero r
+path_nonzero : (before : List (List ℕ)) (r : List ℕ) (p : List ℕ) → path before r ≡ Ok p → NoZero r
 unfolding path
 path_nonzero before r p e = let (ns, there, rest) = and_given_accepted (numbers (fields r)) _ _ _ _ p e in fields_nonzero r (numbers_nonzero (fields r) ns there)
 
 -- an accepted table of paths
-pub paths_fine : (n : ℕ) (b : List ℕ) (ps : List (List ℕ)) → read_paths n b ≡ accepted ps → Fine b
+pub paths_fine : (n : ℕ) (b : List ℕ) (ps : List (List ℕ)) → read_paths n b ≡ Ok ps → Fine b
 unfolding read_paths
 paths_fine n b ps e =
     let (u, short, judged) = bind_accepted (within_bytes _ b) _ ps e in
@@ -129,7 +132,7 @@ paths_fine n b ps e =
 -- ---- the three tables
 
 -- three accepted tables
-pub accepted_bytes : (ts : Tables) (p : Plan) → read_tables ts ≡ accepted p → Fine ts.roads × Fine ts.carts × Fine ts.paths
+pub accepted_bytes : (ts : Tables) (p : Plan) → read_tables ts ≡ Ok p → Fine ts.roads × Fine ts.carts × Fine ts.paths
 unfolding read_tables
 accepted_bytes ts p e =
     let (rs, roads, e1) = bind_accepted (read_roads ts.roads) _ p e in

@@ -1,74 +1,74 @@
 -- What an accepting judgement says of each of its steps: a step accepted, a test passed, a value there, nothing found. Assumes nothing.
+use Rattle.std.specs.Prelude.{Option, None, Some, Err, Ok}
 use Prim.Native.Nat.{ℕ}
 use mathlib.Core.Path.{◌≡◌, refl, ap, sym, subst}
 use mathlib.Core.List.{List, [], ◌∷◌, ◌++◌}
 use mathlib.Core.Bool.{Bool, true, false}
-use mathlib.Core.Option.{Option, none, some}
 use lib.Dec.{T}
 use Rattle.floor.specs.declared.Reason.{Reason}
 use Rattle.floor.specs.declared.Table.{Table}
 use Rattle.floor.specs.declared.Refusal.{Refusal}
-use Rattle.floor.specs.Refusal.{Judged, refused, accepted, ◌>>=◌, need, given, unless_found, records_in_order}
+use Rattle.floor.specs.Refusal.{Judged, ◌>>=◌, need, given, unless_found, records_in_order}
 
 -- whether a judgement accepts, and what (d where it does not)
 accepts : {A : Type 0} → Judged A → Bool
-accepts (refused r) = false
-accepts (accepted a) = true
+accepts (Err r) = false
+accepts (Ok a) = true
 
 read : {A : Type 0} → A → Judged A → A
-read d (refused r) = d
-read d (accepted a) = a
+read d (Err r) = d
+read d (Ok a) = a
 
 -- a refusal accepts nothing
-pub refused_not_accepted : {A : Type 0} (r : Refusal) (a : A) → refused r ≡ accepted a → ⊥
+pub refused_not_accepted : {A : Type 0} (r : Refusal) (a : A) → ◌≡◌ {A = Judged A} (Err r) (Ok a) → ⊥
 unfolding accepts
 refused_not_accepted r a e = subst T (sym (ap accepts e)) tt
 
 -- what is accepted is one thing
-pub accepted_same : {A : Type 0} (a b : A) → accepted a ≡ accepted b → a ≡ b
+pub accepted_same : {A : Type 0} (a b : A) → ◌≡◌ {A = Judged A} (Ok a) (Ok b) → a ≡ b
 unfolding read
 accepted_same a b e = ap (read a) e
 
 -- of two steps that accept, the first accepts something from which the second does
-pub bind_accepted : {A B : Type 0} (m : Judged A) (f : A → Judged B) (b : B) → (m >>= f) ≡ accepted b
-    → (a : A) × (m ≡ accepted a) × (f a ≡ accepted b)
+pub bind_accepted : {A B : Type 0} (m : Judged A) (f : A → Judged B) (b : B) → (m >>= f) ≡ Ok b
+    → (a : A) × (m ≡ Ok a) × (f a ≡ Ok b)
 unfolding ◌>>=◌
-bind_accepted (refused r) f b e = absurd (refused_not_accepted r b e)
-bind_accepted (accepted a) f b e = (a, refl, e)
+bind_accepted (Err r) f b e = absurd (refused_not_accepted r b e)
+bind_accepted (Ok a) f b e = (a, refl, e)
 
 -- a test that is accepted is passed
-pub need_accepted : (t : Bool) (why : Reason) (table : Table) (i : ℕ) (u : Unit {0}) → need t why table i ≡ accepted u → T t
+pub need_accepted : (t : Bool) (why : Reason) (table : Table) (i : ℕ) (u : Unit {0}) → need t why table i ≡ Ok u → T t
 unfolding need
 need_accepted true why table i u e = tt
 need_accepted false why table i u e = absurd (refused_not_accepted _ u e)
 
 -- a value that is accepted is there
-pub given_accepted : {A : Type 0} (o : Option A) (why : Reason) (table : Table) (i : ℕ) (a : A) → given o why table i ≡ accepted a → o ≡ some a
+pub given_accepted : {A : Type 0} (o : Option A) (why : Reason) (table : Table) (i : ℕ) (a : A) → given o why table i ≡ Ok a → o ≡ Some a
 unfolding given
-given_accepted none why table i a e = absurd (refused_not_accepted _ a e)
-given_accepted (some x) why table i a e = ap some (accepted_same x a e)
+given_accepted None why table i a e = absurd (refused_not_accepted _ a e)
+given_accepted (Some x) why table i a e = ap Some (accepted_same x a e)
 
 -- a search that is accepted found nothing
-pub unless_found_accepted : (o : Option ℕ) (why : Reason) (u : Unit {0}) → unless_found o why ≡ accepted u → o ≡ none
+pub unless_found_accepted : (o : Option ℕ) (why : Reason) (u : Unit {0}) → unless_found o why ≡ Ok u → o ≡ None
 unfolding unless_found
-unless_found_accepted none why u e = refl
-unless_found_accepted (some i) why u e = absurd (refused_not_accepted _ u e)
+unless_found_accepted None why u e = refl
+unless_found_accepted (Some i) why u e = absurd (refused_not_accepted _ u e)
 
 -- a test, and then the rest: the test is passed and the rest accepts
 pub then_accepted : {B : Type 0} (t : Bool) (why : Reason) (table : Table) (i : ℕ) (k : Judged B) (b : B)
-    → (need t why table i >>= λ _. k) ≡ accepted b → T t × (k ≡ accepted b)
+    → (need t why table i >>= λ _. k) ≡ Ok b → T t × (k ≡ Ok b)
 then_accepted t why table i k b e =
     let (u, passed, rest) = bind_accepted (need t why table i) (λ _. k) b e in (need_accepted t why table i u passed, rest)
 
 -- a value, and then the rest: the value is there and the rest accepts
 pub and_given_accepted : {A B : Type 0} (o : Option A) (why : Reason) (table : Table) (i : ℕ) (f : A → Judged B) (b : B)
-    → (given o why table i >>= f) ≡ accepted b → (a : A) × (o ≡ some a) × (f a ≡ accepted b)
+    → (given o why table i >>= f) ≡ Ok b → (a : A) × (o ≡ Some a) × (f a ≡ Ok b)
 and_given_accepted o why table i f b e =
     let (a, there, rest) = bind_accepted (given o why table i) f b e in (a, given_accepted o why table i a there, rest)
 
 -- a search, and then the rest: nothing is found and the rest accepts
 pub none_found_accepted : {B : Type 0} (o : Option ℕ) (why : Reason) (k : Judged B) (b : B)
-    → (unless_found o why >>= λ _. k) ≡ accepted b → (o ≡ none) × (k ≡ accepted b)
+    → (unless_found o why >>= λ _. k) ≡ Ok b → (o ≡ None) × (k ≡ Ok b)
 none_found_accepted o why k b e =
     let (u, nothing, rest) = bind_accepted (unless_found o why) (λ _. k) b e in (unless_found_accepted o why u nothing, rest)
 
@@ -81,38 +81,38 @@ pass {B} t why table i k e = ap (λ (x : Bool). need x why table i >>= λ _. k) 
 
 -- one that fails stops there
 pub stop : {B : Type 0} (t : Bool) (why : Reason) (table : Table) (i : ℕ) (k : Judged B) → t ≡ false
-    → (need t why table i >>= λ _. k) ≡ refused (record { reason = why; table = table; row = i })
+    → (need t why table i >>= λ _. k) ≡ Err (record { reason = why; table = table; row = i })
 unfolding need ◌>>=◌
 stop {B} t why table i k e = ap (λ (x : Bool). need x why table i >>= λ _. k) e
 
 -- a value that is there is handed on
-pub got : {A B : Type 0} (o : Option A) (why : Reason) (table : Table) (i : ℕ) (f : A → Judged B) (a : A) → o ≡ some a → (given o why table i >>= f) ≡ f a
+pub got : {A B : Type 0} (o : Option A) (why : Reason) (table : Table) (i : ℕ) (f : A → Judged B) (a : A) → o ≡ Some a → (given o why table i >>= f) ≡ f a
 unfolding given ◌>>=◌
 got {A} o why table i f a e = ap (λ (x : Option A). given x why table i >>= f) e
 
 -- one that is not stops there
-pub lacks : {A B : Type 0} (o : Option A) (why : Reason) (table : Table) (i : ℕ) (f : A → Judged B) → o ≡ none
-    → (given o why table i >>= f) ≡ refused (record { reason = why; table = table; row = i })
+pub lacks : {A B : Type 0} (o : Option A) (why : Reason) (table : Table) (i : ℕ) (f : A → Judged B) → o ≡ None
+    → (given o why table i >>= f) ≡ Err (record { reason = why; table = table; row = i })
 unfolding given ◌>>=◌
 lacks {A} o why table i f e = ap (λ (x : Option A). given x why table i >>= f) e
 
 -- a search that finds nothing is passed over
-pub clear : {B : Type 0} (o : Option ℕ) (why : Reason) (k : Judged B) → o ≡ none → (unless_found o why >>= λ _. k) ≡ k
+pub clear : {B : Type 0} (o : Option ℕ) (why : Reason) (k : Judged B) → o ≡ None → (unless_found o why >>= λ _. k) ≡ k
 unfolding unless_found ◌>>=◌
 clear o why k e = ap (λ (x : Option ℕ). unless_found x why >>= λ _. k) e
 
 -- one that finds a record stops there
-pub meets : {B : Type 0} (o : Option ℕ) (why : Reason) (k : Judged B) (i : ℕ) → o ≡ some i
-    → (unless_found o why >>= λ _. k) ≡ refused (record { reason = why; table = Table.Paths; row = i })
+pub meets : {B : Type 0} (o : Option ℕ) (why : Reason) (k : Judged B) (i : ℕ) → o ≡ Some i
+    → (unless_found o why >>= λ _. k) ≡ Err (record { reason = why; table = Table.Paths; row = i })
 unfolding unless_found ◌>>=◌
 meets o why k i e = ap (λ (x : Option ℕ). unless_found x why >>= λ _. k) e
 
 -- an accepted step hands on what it accepts, a refused one its refusal
-pub goes_on : {A B : Type 0} (m : Judged A) (f : A → Judged B) (a : A) → m ≡ accepted a → (m >>= f) ≡ f a
+pub goes_on : {A B : Type 0} (m : Judged A) (f : A → Judged B) (a : A) → m ≡ Ok a → (m >>= f) ≡ f a
 unfolding ◌>>=◌
 goes_on {A} m f a e = ap (λ (x : Judged A). x >>= f) e
 
-pub ends : {A B : Type 0} (m : Judged A) (f : A → Judged B) (r : Refusal) → m ≡ refused r → (m >>= f) ≡ refused r
+pub ends : {A B : Type 0} (m : Judged A) (f : A → Judged B) (r : Refusal) → m ≡ Err r → (m >>= f) ≡ Err r
 unfolding ◌>>=◌
 ends {A} m f r e = ap (λ (x : Judged A). x >>= f) e
 
@@ -120,8 +120,8 @@ ends {A} m f r e = ap (λ (x : Judged A). x >>= f) e
 
 -- what holds of those before and is kept by each record that is taken holds of all
 pub kept_in_order : {A : Type 0} (judge : List A → List ℕ → Judged A) (P : List A → Type 0)
-    → ((before : List A) (r : List ℕ) (a : A) → P before → judge before r ≡ accepted a → P (before ++ (a ∷ [])))
-    → (rs : List (List ℕ)) (before all : List A) → P before → records_in_order judge before rs ≡ accepted all → P all
+    → ((before : List A) (r : List ℕ) (a : A) → P before → judge before r ≡ Ok a → P (before ++ (a ∷ [])))
+    → (rs : List (List ℕ)) (before all : List A) → P before → records_in_order judge before rs ≡ Ok all → P all
 unfolding records_in_order
 kept_in_order judge P keep [] before all h e = subst P (accepted_same before all e) h
 kept_in_order {A} judge P keep (r ∷ rs) before all h e =

@@ -5,7 +5,7 @@ use mathlib.Core.Path.{◌≡◌, refl}
 use mathlib.Core.List.{List, [], ◌∷◌, ◌++◌, map}
 use lib.ListN.{replicate}
 use Rattle.rfc4180.specs.Text.{bytes}
-use Rattle.floor.specs.Plan.{Road}
+use Rattle.floor.specs.declared.Road.{Road}
 use Rattle.floor.specs.Roads.{road}
 use Rattle.floor.specs.Paths.{path}
 use Rattle.floor.specs.Tables.{Tables, read_tables}

@@ -1,19 +1,18 @@
 -- The table of carts (document 01, "The three tables").
 -- Assumes nothing.
-use Rattle.std.specs.Prelude.{ℕ, Bool, true, ◌&&◌, List, [], ◌∷◌, leb, eqb, length, get_or}
-use Rattle.std.proofs.Math.Option.{Option, none, some}
+use Rattle.std.specs.Prelude.{ℕ, Bool, true, ◌&&◌, List, [], ◌∷◌, leb, eqb, length, get_or, Option, None, Some, Ok}
 use Rattle.rfc4180.specs.Text.{bytes}
 use Rattle.rfc4180.specs.Records.{records, fields}
 use Rattle.rfc4180.specs.Number.{number}
 use Rattle.floor.specs.declared.Reason.TheVariants.{Layout, Range, Limit, NoCarts}
 use Rattle.floor.specs.declared.Table.TheVariants.{Carts}
-use Rattle.floor.specs.Refusal.{Judged, accepted, ◌>>=◌, ◌>>◌, need, given, within_bytes, after_first_line, next, records_in_order}
-use Rattle.floor.specs.Plan.{Cart}
+use Rattle.floor.specs.Refusal.{Judged, ◌>>=◌, ◌>>◌, need, given, within_bytes, after_first_line, next, records_in_order}
+use Rattle.floor.specs.declared.Cart.{Cart}
 
 -- the slowest speed is a number "or empty, which means none"
 unfoldable pub number_or_empty : List ℕ → Option (Option ℕ)
-number_or_empty [] = some none
-number_or_empty (b ∷ bs) = elim (number (b ∷ bs)) [ none ↦ none | some n ↦ some (some n) ]
+number_or_empty [] = Some None
+number_or_empty (b ∷ bs) = elim (number (b ∷ bs)) [ None ↦ None | Some n ↦ Some (Some n) ]
 
 -- "fastest 1,000..20,000,000"
 unfoldable pub fastest_range : ℕ → Bool
@@ -21,8 +20,8 @@ fastest_range f = leb 1000 f && leb f 20_000_000
 
 -- "slowest 1,000..fastest"
 unfoldable pub slowest_range : ℕ → Option ℕ → Bool
-slowest_range f none = true
-slowest_range f (some s) = leb 1000 s && leb s f
+slowest_range f None = true
+slowest_range f (Some s) = leb 1000 s && leb s f
 
 -- a record of two fields, after the carts before it: 1, 2 and 4 ("64 carts")
 unfoldable pub cart : List Cart → List ℕ → Judged Cart
@@ -34,7 +33,7 @@ cart before r = do
   s ← given (number_or_empty (get_or fs 1 [])) Layout Carts i
   need (fastest_range f && slowest_range f s) Range Carts i
   need (leb i 64) Limit Carts i
-  accepted (record { fastest = f; slowest = s })
+  Ok (record { fastest = f; slowest = s })
 
 -- "Carts: the first line is the bytes `fastest,slowest`"; "5 follows the carts"
 unfoldable pub read_carts : List ℕ → Judged (List Cart)
@@ -43,7 +42,7 @@ read_carts b = do
   rs ← after_first_line (bytes "fastest,slowest") Carts (records b)
   cs ← records_in_order cart [] rs
   need (leb 1 (length cs)) NoCarts Carts 0
-  accepted cs
+  Ok cs
 
 -- Names every definition of this module, for a proof that computes with them all.
 unfoldable pub open_carts : Unit {0}

@@ -1,9 +1,9 @@
 -- The plans of document 01, "Plans with known times", and a few more, as tables.
 -- Assumes nothing.
-use Rattle.std.specs.Prelude.{ℕ, List, [], ◌∷◌, ◌++◌}
+use Rattle.std.specs.Prelude.{ℕ, List, [], ◌∷◌, ◌++◌, Err, Ok}
 use Prim.Native.String.{String}
 use Rattle.rfc4180.specs.Text.{bytes}
-use Rattle.floor.specs.Refusal.{Judged, refused, accepted, reason_number, table_number}
+use Rattle.floor.specs.Refusal.{Judged, reason_number, table_number}
 use Rattle.floor.specs.Tables.{Tables}
 
 -- lines, each ended by CR LF
@@ -64,8 +64,8 @@ crossing cart-1 =
 
 -- the refusal, the table and the record of a judgement; 0, 0, 0 where it accepts
 unfoldable pub verdict : {A : Type 0} → Judged A → List ℕ
-verdict (refused r) = reason_number r.reason ∷ table_number r.table ∷ r.row ∷ []
-verdict (accepted a) = 0 ∷ 0 ∷ 0 ∷ []
+verdict (Err r) = reason_number r.reason ∷ table_number r.table ∷ r.row ∷ []
+verdict (Ok a) = 0 ∷ 0 ∷ 0 ∷ []
 
 -- Names every definition of this module, for a proof that computes with them all.
 unfoldable pub open_examples : Unit {0}

@@ -1,13 +1,13 @@
 -- The table of paths, and what two carts or a cart and the roads may not do (document 01, "Turned down because of the input").
 -- Assumes nothing.
-use Rattle.std.specs.Prelude.{ℕ, zero, suc, ◌*◌, ◌-◌, Bool, true, false, ◌&&◌, ◌||◌, cond, List, [], ◌∷◌, ◌++◌, map, leb, eqb, length, get_or}
-use Rattle.std.proofs.Math.Option.{Option, none, some}
+use Rattle.std.specs.Prelude.{ℕ, zero, suc, ◌*◌, ◌-◌, Bool, true, false, ◌&&◌, ◌||◌, cond, List, [], ◌∷◌, ◌++◌, map, leb, eqb, length, get_or, Option, None, Some, Ok}
 use Rattle.rfc4180.specs.Records.{records, fields}
 use Rattle.rfc4180.specs.Number.{numbers}
 use Rattle.floor.specs.declared.Reason.TheVariants.{Layout, Range, Limit, PathCount}
 use Rattle.floor.specs.declared.Table.TheVariants.{Paths}
-use Rattle.floor.specs.Refusal.{Judged, accepted, ◌>>=◌, ◌>>◌, need, given, within_bytes, next, records_in_order}
-use Rattle.floor.specs.Plan.{Road, joined}
+use Rattle.floor.specs.Refusal.{Judged, ◌>>=◌, ◌>>◌, need, given, within_bytes, next, records_in_order}
+use Rattle.floor.specs.Plan.{joined}
+use Rattle.floor.specs.declared.Road.{Road}
 use Rattle.floor.specs.Roads.{cell_range}
 
 -- every cell in its range
@@ -28,7 +28,7 @@ path before r = do
   need (same_width before (length cs)) Layout Paths i
   need (cells_range cs) Range Paths i
   need (leb (length cs) 1024 && leb (i * length cs) 8192) Limit Paths i
-  accepted cs
+  Ok cs
 
 -- "Paths: no first line"; "6 the paths": 6 follows them, for this count of carts
 unfoldable pub read_paths : ℕ → List ℕ → Judged (List (List ℕ))
@@ -36,7 +36,7 @@ read_paths carts b = do
   within_bytes Paths b
   ps ← records_in_order path [] (records b)
   need (eqb (length ps) carts) PathCount Paths 0
-  accepted ps
+  Ok ps
 
 -- of every two successive cells of a path, that they are "equal" or "joined by a road"
 unfoldable pub on_roads : List Road → List ℕ → Bool
@@ -46,8 +46,8 @@ on_roads roads (a ∷ b ∷ cs) = (eqb a b || joined roads a b) && on_roads road
 
 -- "7 over all paths, the lowest record first": the first path, from record i on, that leaves the roads
 unfoldable pub off_road : List Road → ℕ → List (List ℕ) → Option ℕ
-off_road roads i [] = none
-off_road roads i (p ∷ ps) = cond (on_roads roads p) (off_road roads (suc i) ps) (some i)
+off_road roads i [] = None
+off_road roads i (p ∷ ps) = cond (on_roads roads p) (off_road roads (suc i) ps) (Some i)
 
 -- whether x collides with one of those before it
 unfoldable pub collides : {A : Type 0} → (A → A → Bool) → A → List A → Bool
@@ -56,13 +56,13 @@ collides f x (y ∷ ys) = f x y || collides f x ys
 
 -- "by the higher record of the pair, the lowest such": the first record that collides with one before it
 unfoldable pub first_collision : {A : Type 0} → (A → A → Bool) → List A → List A → Option ℕ
-first_collision f before [] = none
-first_collision f before (x ∷ xs) = cond (collides f x before) (some (next before)) (first_collision f (before ++ (x ∷ [])) xs)
+first_collision f before [] = None
+first_collision f before (x ∷ xs) = cond (collides f x before) (Some (next before)) (first_collision f (before ++ (x ∷ [])) xs)
 
 -- "by earliest step": the first found at the steps from s on, n of them
 unfoldable pub earliest : (ℕ → Option ℕ) → ℕ → ℕ → Option ℕ
-earliest f s zero = none
-earliest f s (suc n) = elim (f s) [ none ↦ earliest f (suc s) n | some i ↦ some i ]
+earliest f s zero = None
+earliest f s (suc n) = elim (f s) [ None ↦ earliest f (suc s) n | Some i ↦ Some i ]
 
 -- where a path is at a step
 unfoldable pub at_step : ℕ → List ℕ → ℕ

@@ -1,7 +1,6 @@
 -- Refusals because of the tables, and how a judgement goes on or stops (document 01, "Turned down because of the input").
 -- Assumes nothing.
-use Rattle.std.specs.Prelude.{ℕ, suc, Bool, true, false, List, [], ◌∷◌, ◌++◌, leb, length}
-use Rattle.std.proofs.Math.Option.{Option, none, some}
+use Rattle.std.specs.Prelude.{ℕ, suc, Bool, true, false, List, [], ◌∷◌, ◌++◌, leb, length, Option, None, Some, Result, Ok, Err}
 use Rattle.rfc4180.specs.Text.{same}
 use Rattle.floor.specs.declared.Reason.{Reason}
 use Rattle.floor.specs.declared.Reason.TheVariants.{Layout, Range, RoadPair, Limit, NoCarts, PathCount, OffRoad, SameCell, Exchange}
@@ -28,15 +27,14 @@ table_number Carts = 2
 table_number Paths = 3
 
 -- "A refusal gives its number, the table … and the record"; all other tables are accepted, with what was read
-pub data Judged (A : Type 0) : Type 0 where
-  refused : Refusal → Judged A
-  accepted : A → Judged A
+abbrev pub Judged : Type 0 → Type 0
+Judged A = Result A Refusal
 
 infixl 10 ◌>>=◌
 -- the first refusal stands
 unfoldable pub ◌>>=◌ : {A B : Type 0} → Judged A → (A → Judged B) → Judged B
-refused r >>= f = refused r
-accepted a >>= f = f a
+Err r >>= f = Err r
+Ok a >>= f = f a
 
 infixl 10 ◌>>◌
 -- a test, and then the rest
@@ -45,18 +43,18 @@ m >> k = m >>= λ _. k
 
 -- a refusal unless the test passes
 unfoldable pub need : Bool → Reason → Table → ℕ → Judged (Unit {0})
-need true why t i = accepted tt
-need false why t i = refused (record { reason = why; table = t; row = i })
+need true why t i = Ok tt
+need false why t i = Err (record { reason = why; table = t; row = i })
 
 -- a refusal where there is no value
 unfoldable pub given : {A : Type 0} → Option A → Reason → Table → ℕ → Judged A
-given none why t i = refused (record { reason = why; table = t; row = i })
-given (some a) why t i = accepted a
+given None why t i = Err (record { reason = why; table = t; row = i })
+given (Some a) why t i = Ok a
 
 -- a refusal at the record of the paths that was found, if one was
 unfoldable pub unless_found : Option ℕ → Reason → Judged (Unit {0})
-unless_found none why = accepted tt
-unless_found (some i) why = refused (record { reason = why; table = Paths; row = i })
+unless_found None why = Ok tt
+unless_found (Some i) why = Err (record { reason = why; table = Paths; row = i })
 
 -- "At most 65,536 bytes a table"; "for bytes record 0, before that table is read"
 unfoldable pub within_bytes : Table → List ℕ → Judged (Unit {0})
@@ -64,10 +62,10 @@ within_bytes t b = need (leb (length b) 65536) Limit t 0
 
 -- "first line (record 0)": the records after it
 unfoldable pub after_first_line : List ℕ → Table → List (List ℕ) → Judged (List (List ℕ))
-after_first_line line t [] = refused (record { reason = Layout; table = t; row = 0 })
+after_first_line line t [] = Err (record { reason = Layout; table = t; row = 0 })
 after_first_line line t (r ∷ rs) = do
   need (same line r) Layout t 0
-  accepted rs
+  Ok rs
 
 -- "the record, counted from 1 without the first line": the number of the one after those before it
 unfoldable pub next : {A : Type 0} → List A → ℕ
@@ -75,7 +73,7 @@ next before = suc (length before)
 
 -- "records in order": each judged in its turn, after what those before it were taken for
 unfoldable pub records_in_order : {A : Type 0} → (List A → List ℕ → Judged A) → List A → List (List ℕ) → Judged (List A)
-records_in_order judge before [] = accepted before
+records_in_order judge before [] = Ok before
 records_in_order judge before (r ∷ rs) = judge before r >>= λ a. records_in_order judge (before ++ (a ∷ [])) rs
 
 -- Names every definition of this module, for a proof that computes with them all.

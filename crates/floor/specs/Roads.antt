@@ -1,13 +1,14 @@
 -- The table of roads (document 01, "The three tables").
 -- Assumes nothing.
-use Rattle.std.specs.Prelude.{ℕ, ◌*◌, Bool, ◌&&◌, not, List, [], leb, ltb, eqb, length, get_or}
+use Rattle.std.specs.Prelude.{ℕ, ◌*◌, Bool, ◌&&◌, not, List, [], leb, ltb, eqb, length, get_or, Ok}
 use Rattle.rfc4180.specs.Text.{bytes}
 use Rattle.rfc4180.specs.Records.{records, fields}
 use Rattle.rfc4180.specs.Number.{numbers}
 use Rattle.floor.specs.declared.Reason.TheVariants.{Layout, Range, RoadPair, Limit}
 use Rattle.floor.specs.declared.Table.TheVariants.{Roads}
-use Rattle.floor.specs.Refusal.{Judged, accepted, ◌>>=◌, ◌>>◌, need, given, within_bytes, after_first_line, next, records_in_order}
-use Rattle.floor.specs.Plan.{Road, joined}
+use Rattle.floor.specs.Refusal.{Judged, ◌>>=◌, ◌>>◌, need, given, within_bytes, after_first_line, next, records_in_order}
+use Rattle.floor.specs.Plan.{joined}
+use Rattle.floor.specs.declared.Road.{Road}
 
 -- "Cells are 0..65,534."
 unfoldable pub cell_range : ℕ → Bool
@@ -29,7 +30,7 @@ road before r = do
   need (road_ranges d) Range Roads i
   need (not (eqb d.from d.to) && not (joined before d.from d.to)) RoadPair Roads i
   need (leb i 1024) Limit Roads i
-  accepted d
+  Ok d
 
 -- "Roads: the first line is the bytes `from,to,length,margin`."
 unfoldable pub read_roads : List ℕ → Judged (List Road)

@@ -1,9 +1,9 @@
 -- The three tables read and judged, up to refusal 9 (document 01, "Turned down because of the input").
 -- `network`'s `Judge` adds what is last: 4 for events, then bounds.
 -- Assumes nothing.
-use Rattle.std.specs.Prelude.{ℕ, List, length}
+use Rattle.std.specs.Prelude.{ℕ, List, length, Ok}
 use Rattle.floor.specs.declared.Reason.TheVariants.{OffRoad, SameCell, Exchange}
-use Rattle.floor.specs.Refusal.{Judged, accepted, ◌>>=◌, ◌>>◌, unless_found}
+use Rattle.floor.specs.Refusal.{Judged, ◌>>=◌, ◌>>◌, unless_found}
 use Rattle.floor.specs.Plan.{Plan}
 use Rattle.floor.specs.Roads.{read_roads}
 use Rattle.floor.specs.Carts.{read_carts}
@@ -24,7 +24,7 @@ read_tables ts = do
   unless_found (off_road rs 1 ps) OffRoad
   unless_found (first_same_cell ps) SameCell
   unless_found (first_exchange ps) Exchange
-  accepted (record { roads = rs; carts = cs; paths = ps })
+  Ok (record { roads = rs; carts = cs; paths = ps })
 
 -- Names every definition of this module, for a proof that computes with them all.
 unfoldable pub open_tables : Unit {0}

@@ -1,19 +1,19 @@
 -- The claim about whole lists of calls: demand 3, over the outcomes. Assumes nothing.
+use Rattle.std.specs.Prelude.{Option, None, Some, Ok, Err}
 use Prim.Native.Nat.{ℕ, ◌^◌, ◌≤◌, ◌<◌}
 use mathlib.Core.Path.{◌≡◌, refl, ap, sym, ◌∙◌, subst}
 use mathlib.Core.Logic.{◌↔◌, ◌≢◌}
 use mathlib.Core.Bool.{Bool, true, false, cond}
 use mathlib.Core.List.Memᴰ
 use mathlib.Core.List.{List, [], ◌∷◌, ◌++◌, map}
-use mathlib.Core.Option.{Option, none, some, none-ne-some, some-injective}
 use lib.Dec.{T, leb, le→leb}
 use lib.IntN.{pos}
 use lib.ListN.{length, get_or, take, drop, length-map}
 use mir.Facts.{and_yes, yes_and}
+use Rattle.laws.proofs.Options.{none-ne-some, some-injective}
 use Rattle.laws.proofs.Members.{at_place}
 use Rattle.words.specs.Words.{words, word_at, written}
 use Rattle.words.proofs.Reading.{word_at_words, written_front}
-use Rattle.floor.specs.Refusal.{accepted}
 use Rattle.floor.specs.Plan.{Plan}
 use Rattle.floor.specs.Tables.{Tables}
 use Rattle.network.specs.Events.{event_count}
@@ -28,7 +28,8 @@ use Rattle.schedule.proofs.Chains.{ChainWithin}
 use Rattle.schedule.proofs.ChainSizes.{chain_numbers}
 use Rattle.schedule.proofs.Lent.{times_back}
 use Rattle.schedule.proofs.Times.{timetable_earliest, timetable_counted, no_timetable_chain, no_timetable_none_fit}
-use Rattle.hegtalim.specs.declared.Timed.{Timed}
+use Rattle.hegtalim.specs.declared.TimeError.{TimeError}
+use Rattle.hegtalim.specs.Answers.{Timed}
 use Rattle.slice.specs.PlanSlice.{plan_need, plan_slice, Held, held}
 use Rattle.schedule.specs.Lent.{Lent, long_enough, times_written, chain_written}
 use Rattle.hegtalim.specs.Outcomes.{Load, load, book_answer, Reporting, report, meets_needs, Timetabled, too_short, no_plan, timed, no_times}
@@ -43,14 +44,14 @@ use Rattle.hegtalim.proofs.Calls.{load_accepted, load_held, report_slice}
 pub record Standing (ts : Tables) (p : Plan) (s : List ℕ) (b : Book) : Type 0 where
   pub places : ℕ
   pub enough : plan_need ≤ places
-  pub of_tables : judge ts ≡ accepted p
+  pub of_tables : judge ts ≡ Ok p
   pub log : List Report
-  pub replayed : replay p (first_book p) log ≡ some b
+  pub replayed : replay p (first_book p) log ≡ Some b
   pub is : s ≡ plan_slice places ts log
 
 module _ (ts : Tables) (p : Plan) where
   -- it is never a 10
-  holds_plan : (s : List ℕ) (b : Book) (h : Standing ts p s b) → held s ≡ some (record { tables = ts; log = h.log; plan = p; book = b })
+  holds_plan : (s : List ℕ) (b : Book) (h : Standing ts p s b) → held s ≡ Some (record { tables = ts; log = h.log; plan = p; book = b })
   holds_plan s b h = ap held h.is ∙ held_slice h.places ts p h.log b h.enough h.of_tables h.replayed
 
   -- nor too short itself
@@ -90,16 +91,16 @@ module _ (ts : Tables) (p : Plan) where
 
   -- whether an answer is one of a timetable that is turned down
   is_no_plan : Timed → Bool
-  is_no_plan (Timed.Times k) = false
-  is_no_plan Timed.TooShort = false
-  is_no_plan Timed.NoPlan = true
-  is_no_plan (Timed.NoTimes n) = false
+  is_no_plan (Ok k) = false
+  is_no_plan (Err TimeError.TooShort) = false
+  is_no_plan (Err TimeError.NoPlan) = true
+  is_no_plan (Err (TimeError.NoTimes n)) = false
 
   is_too_short : Timed → Bool
-  is_too_short (Timed.Times k) = false
-  is_too_short Timed.TooShort = true
-  is_too_short Timed.NoPlan = false
-  is_too_short (Timed.NoTimes n) = false
+  is_too_short (Ok k) = false
+  is_too_short (Err TimeError.TooShort) = true
+  is_too_short (Err TimeError.NoPlan) = false
+  is_too_short (Err (TimeError.NoTimes n)) = false
 
   -- a timetable that meets its needs has slices that are long enough
   own_long : (s : List ℕ) (l : Lent) → meets_needs s l ≡ true → T (long_enough l)
@@ -112,7 +113,7 @@ module _ (ts : Tables) (p : Plan) where
   needs_met s b l h k = yes_and (leb plan_need (length s)) (long_enough l) (long s b h) k
 
   abbrev RightTimed : Lent → Timed → Type 0
-  RightTimed l a = (a ≢ Timed.NoPlan) × ((a ≡ Timed.TooShort) ↔ (¬ T (long_enough l)))
+  RightTimed l a = (a ≢ (Err TimeError.NoPlan)) × ((a ≡ (Err TimeError.TooShort)) ↔ (¬ T (long_enough l)))
 
   -- an answer that is neither
   neither : (s : List ℕ) (l : Lent) (a : Timed) → meets_needs s l ≡ true → is_no_plan a ≡ false → is_too_short a ≡ false → RightTimed l a
@@ -130,8 +131,8 @@ module _ (ts : Tables) (p : Plan) where
     (λ q k. subst T e (needs_met s b l h k), λ k. refl),
   )
   after_timetable s b l l' a h (no_plan e f) = absurd (none-ne-some _ (sym f ∙ holds_plan s b h))
-  after_timetable s b l l' a h (timed e k f t g) = neither s l (Timed.Times t.passes) e refl refl
-  after_timetable s b l l' a h (no_times e k f g is c) = neither s l (Timed.NoTimes (length is)) e refl refl
+  after_timetable s b l l' a h (timed e k f t g) = neither s l (Ok t.passes) e refl refl
+  after_timetable s b l l' a h (no_times e k f g is c) = neither s l (Err (TimeError.NoTimes (length is))) e refl refl
 
   after_call : (s s' : List ℕ) (b : Book) (c : Call) (a : Reply) → Standing ts p s b → Replies s c a s'
       → Right p b c a × Standing ts p s' (book_after_call p b c)
@@ -153,12 +154,12 @@ module _ (ts : Tables) (p : Plan) where
   -- ---- the timetable after the list
 
   -- the times written are read back
-  times_read : (b : Book) (k : Logged p b) (t : Timetable) → timetable p b ≡ some t → (l : Lent) (v : ℕ) → v < event_count p
+  times_read : (b : Book) (k : Logged p b) (t : Timetable) → timetable p b ≡ Some t → (l : Lent) (v : ℕ) → v < event_count p
       → times_in (times_written t l).times v ≡ pos (get_or t.times v 0)
   unfolding times_in
   times_read b k t e l v h = ap pos (times_back p b k t e l v h)
 
-  earliest : (b : Book) → Logged p b → (t : Timetable) → timetable p b ≡ some t → (l : Lent) → Earliest p b (times_in (times_written t l).times) t.passes
+  earliest : (b : Book) → Logged p b → (t : Timetable) → timetable p b ≡ Some t → (l : Lent) → Earliest p b (times_in (times_written t l).times) t.passes
   earliest b k t e l =
       let (fits, least) = timetable_earliest p b k t e (times_in (times_written t l).times) (times_read b k t e l) in
       let (counted, below) = timetable_counted p b k t e in
@@ -174,7 +175,7 @@ module _ (ts : Tables) (p : Plan) where
       let (x, m, e) = Memᴰ.of_map (λ (x : Item). x.number) is (at_place numbers i 0 there) in
       word_at_words 2 numbers (drop (length (words 2 numbers)) l.chain_bounds) i there (subst (λ (n : ℕ). n < 256 ^ 2) e (chain_numbers p b k is c x m))
 
-  impossible : (b : Book) → Logged p b → timetable p b ≡ none → (l : Lent) (is : List Item) → T (is_chain p b is)
+  impossible : (b : Book) → Logged p b → timetable p b ≡ None → (l : Lent) (is : List Item) → T (is_chain p b is)
       → Impossible p b (chain_written is l) (length is)
   unfolding chain_written
   impossible b k e l is c =
@@ -195,15 +196,15 @@ module _ (ts : Tables) (p : Plan) where
   truthful s b l l' a h k (no_plan e f) = none-ne-some _ (sym f ∙ holds_plan s b h)
   truthful s b l l' a h k (timed e x f t g) =
       let same : x ≡ record { tables = ts; log = h.log; plan = p; book = b } = some-injective _ _ (sym f ∙ holds_plan s b h) in
-      earliest b (logged s b h) t (subst (λ (y : Held). timetable y.plan y.book ≡ some t) same g) l
+      earliest b (logged s b h) t (subst (λ (y : Held). timetable y.plan y.book ≡ Some t) same g) l
   truthful s b l l' a h k (no_times e x f g is c) =
       let same : x ≡ record { tables = ts; log = h.log; plan = p; book = b } = some-injective _ _ (sym f ∙ holds_plan s b h) in
-      impossible b (logged s b h) (subst (λ (y : Held). timetable y.plan y.book ≡ none) same g) l is (subst (λ (y : Held). T (is_chain y.plan y.book is)) same c)
+      impossible b (logged s b h) (subst (λ (y : Held). timetable y.plan y.book ≡ None) same g) l is (subst (λ (y : Held). T (is_chain y.plan y.book is)) same c)
 
 -- ---- the whole
 
 -- what an accepted load leaves stands, with the first book
-loaded_stands : (ts : Tables) (before : List ℕ) (p : Plan) → plan_need ≤ length before → judge ts ≡ accepted p → Standing ts p (load ts before).plan (first_book p)
+loaded_stands : (ts : Tables) (before : List ℕ) (p : Plan) → plan_need ≤ length before → judge ts ≡ Ok p → Standing ts p (load ts before).plan (first_book p)
 unfolding replay
 loaded_stands ts before p h e =
     record {
@@ -236,21 +237,21 @@ answered s l = by (meets_needs s l) refl (held s) refl
     out : Type 0
     out = (a : Timed) × (l' : Lent) × Timetabled s l a l'
 
-    held_out : (h : Held) → meets_needs s l ≡ true → held s ≡ some h → (o : Option Timetable) → timetable h.plan h.book ≡ o → out
-    held_out h e f (some t) g = (Timed.Times t.passes, times_written t l, timed e h f t g)
-    held_out h e f none g =
+    held_out : (h : Held) → meets_needs s l ≡ true → held s ≡ Some h → (o : Option Timetable) → timetable h.plan h.book ≡ o → out
+    held_out h e f (Some t) g = (Ok t.passes, times_written t l, timed e h f t g)
+    held_out h e f None g =
         let (n, j, r, q) = held_says s h f in
         let k : Logged h.plan h.book = record { tables = h.tables; of_tables = j; log = h.log; replayed = r } in
         let c : ChainWithin h.plan h.book (event_count h.plan) = no_timetable_chain h.plan h.book k g in (
-          Timed.NoTimes (length c.items),
+          Err (TimeError.NoTimes (length c.items)),
           chain_written c.items l,
           no_times e h f g c.items c.chain,
         )
 
     by : (t : Bool) → meets_needs s l ≡ t → (o : Option Held) → held s ≡ o → out
-    by false e o f = (Timed.TooShort, l, too_short e)
-    by true e none f = (Timed.NoPlan, l, no_plan e f)
-    by true e (some h) f = held_out h e f (timetable h.plan h.book) refl
+    by false e o f = ((Err TimeError.TooShort), l, too_short e)
+    by true e None f = ((Err TimeError.NoPlan), l, no_plan e f)
+    by true e (Some h) f = held_out h e f (timetable h.plan h.book) refl
 
 -- so every list of calls can be played, from any slice: the claim speaks of them all
 pub every_list_played : (s : List ℕ) (calls : List Call) → (replies : List Reply) × (s' : List ℕ) × Played s calls replies s'

@@ -4,13 +4,14 @@ use contract.Lifetimes as Lifetimes
 use borrow.Fn.World as World
 use borrow.Fn.Kinds as Kinds
 use denote.Triple.Clauses as Clauses
+use Rattle.std.specs.Prelude.{Ok}
 use Prim.Native.Nat.{ℕ}
 use mathlib.Core.Path.{◌≡◌, sym, ◌∙◌, subst}
 use mathlib.Core.List.{List}
-use Rattle.floor.specs.Tables.{Tables}
 use Rattle.schedule.specs.Book.{Report, ◌at◌}
-use Rattle.hegtalim.specs.declared.Loaded.{Loaded}
-use Rattle.hegtalim.specs.declared.Reported.{Reported}
+use Rattle.tables.specs.Lending.{tables_of}
+use Rattle.passes.specs.Lending.{lent_of}
+use Rattle.hegtalim.specs.Answers.{Reported}
 use Rattle.hegtalim.specs.Outcomes.{report, Timetabled}
 use Rattle.hegtalim.specs.Claim.{Call, reporting, timing, Reply, reported, timed, Replies, to_report, to_timetable, Played, Holds}
 use Rattle.hegtalim.proofs.Claim.{demand_3}
@@ -35,25 +36,21 @@ report_replies κs a r s p =
     (subst (λ (x : List ℕ). Replies before (reporting named) (reported (report before named).answer) x) (sym p.1) (to_report before named))
 
 -- a timetable's are in the relation that the claim speaks of, as it stands
-pub timetable_outcome : (κs : Lifetimes.Lfts 4) (a : World.ArgsD timetable-fn.signature κs) (r : World.ResD timetable-fn.signature κs)
-    (s : Clauses.AtExit (Kinds.ended_of 4 timetable-kinds.ps timetable-kinds.r) κs) → timetable-reads.Post κs a r s
-    → Timetabled a.0.now (record { times = a.1.0.now; chain_bounds = a.1.1.0.now; chain_directions = a.1.1.1.0.now })
-    r (record { times = s.1.0.now; chain_bounds = s.1.1.0.now; chain_directions = s.1.1.1.0.now })
-timetable_outcome κs a r s p = p
+pub timetable_outcome : (κs : Lifetimes.Lfts 3) (a : World.ArgsD timetable-fn.signature κs) (r : World.ResD timetable-fn.signature κs)
+    (s : Clauses.AtExit (Kinds.ended_of 3 timetable-kinds.ps timetable-kinds.r) κs) → timetable-reads.Post κs a r s
+    → Timetabled a.0.now (lent_of a.1.0.now) r (lent_of s.1.0.now)
+timetable_outcome κs a r s p = p.0
 
 -- so it is a step of the claim, which leaves the plan slice as it came: the function gets it for reading alone
-pub timetable_replies : (κs : Lifetimes.Lfts 4) (a : World.ArgsD timetable-fn.signature κs) (r : World.ResD timetable-fn.signature κs)
-    (s : Clauses.AtExit (Kinds.ended_of 4 timetable-kinds.ps timetable-kinds.r) κs) → timetable-reads.Post κs a r s
-    → Replies a.0.now (timing (record { times = a.1.0.now; chain_bounds = a.1.1.0.now; chain_directions = a.1.1.1.0.now })) (timed r) a.0.now
-timetable_replies κs a r s p =
-    to_timetable a.0.now (record { times = a.1.0.now; chain_bounds = a.1.1.0.now; chain_directions = a.1.1.1.0.now })
-    (record { times = s.1.0.now; chain_bounds = s.1.1.0.now; chain_directions = s.1.1.1.0.now }) r (timetable_outcome κs a r s p)
+pub timetable_replies : (κs : Lifetimes.Lfts 3) (a : World.ArgsD timetable-fn.signature κs) (r : World.ResD timetable-fn.signature κs)
+    (s : Clauses.AtExit (Kinds.ended_of 3 timetable-kinds.ps timetable-kinds.r) κs) → timetable-reads.Post κs a r s
+    → Replies a.0.now (timing (lent_of a.1.0.now)) (timed r) a.0.now
+timetable_replies κs a r s p = to_timetable a.0.now (lent_of a.1.0.now) (lent_of s.1.0.now) r (timetable_outcome κs a r s p)
 
 -- demand 3 from a call of `load` on: it has answered that the plan is held
-pub after_load : (κs : Lifetimes.Lfts 4) (a : World.ArgsD load_fn.signature κs) (r : World.ResD load_fn.signature κs)
-    (s : Clauses.AtExit (Kinds.ended_of 4 load-kinds.ps load-kinds.r) κs) → load-reads.Post κs a r s → r ≡ Loaded.Held
-    → (calls : List Call) (replies : List Reply) (last : List ℕ) → Played s.1.1.1.0.now calls replies last
-    → Holds (record { roads = a.0.now; carts = a.1.0.now; paths = a.1.1.0.now }) calls replies last
+pub after_load : (κs : Lifetimes.Lfts 2) (a : World.ArgsD load_fn.signature κs) (r : World.ResD load_fn.signature κs)
+    (s : Clauses.AtExit (Kinds.ended_of 2 load-kinds.ps load-kinds.r) κs) → load-reads.Post κs a r s → r ≡ (Ok tt)
+    → (calls : List Call) (replies : List Reply) (last : List ℕ) → Played s.1.0.now calls replies last
+    → Holds (tables_of a.0) calls replies last
 after_load κs a r s p e calls replies last run =
-    let ts : Tables = record { roads = a.0.now; carts = a.1.0.now; paths = a.1.1.0.now } in
-    demand_3 ts a.1.1.1.0.now (sym p.0 ∙ e) calls replies last (subst (λ (x : List ℕ). Played x calls replies last) p.1 run)
+    demand_3 (tables_of a.0) a.1.0.now (sym p.0 ∙ e) calls replies last (subst (λ (x : List ℕ). Played x calls replies last) p.1 run)

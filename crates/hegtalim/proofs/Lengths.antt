@@ -1,16 +1,16 @@
 -- No call makes a slice longer or shorter: what an outcome leaves has as many places as what was lent. Assumes nothing.
+use Rattle.std.specs.Prelude.{Option, None, Some, Err, Ok}
 use Prim.Native.Nat.{ℕ, ◌≤◌}
 use native.Mathlib.Omega.{arith}
 use mathlib.Core.Path.{◌≡◌, refl, sym, subst}
 use mathlib.Core.Bool.{Bool, true, false}
 use mathlib.Core.List.{List, [], ◌∷◌, ◌++◌, map}
-use mathlib.Core.Option.{Option, none, some}
 use lib.Dec.{T, leb, leb→le}
 use lib.ListN.{length, drop, length-append, length-drop, length-map, length-replicate}
 use mir.Facts.{and_yes}
 use Rattle.words.specs.Words.{words, written}
 use Rattle.words.proofs.Reading.{words_length}
-use Rattle.floor.specs.Refusal.{Judged, refused, accepted}
+use Rattle.floor.specs.Refusal.{Judged}
 use Rattle.floor.specs.Plan.{Plan}
 use Rattle.floor.specs.Tables.{Tables}
 use Rattle.network.specs.Events.{event_count}
@@ -22,9 +22,9 @@ use Rattle.schedule.proofs.Log.{replay_snoc}
 use Rattle.schedule.proofs.Logged.{Logged}
 use Rattle.schedule.proofs.Times.{timetable_length}
 use Rattle.schedule.proofs.ChainSizes.{chain_short}
-use Rattle.hegtalim.specs.declared.Loaded.{Loaded}
-use Rattle.hegtalim.specs.declared.Reported.{Reported}
-use Rattle.hegtalim.specs.declared.Timed.{Timed}
+use Rattle.tables.specs.declared.ReadError.{ReadError as LoadError}
+use Rattle.hegtalim.specs.declared.ReportError.{ReportError}
+use Rattle.hegtalim.specs.Answers.{Timed}
 use Rattle.slice.specs.PlanSlice.{plan_need, plan_slice, Held, held}
 use Rattle.schedule.specs.Lent.{Lent, long_enough, times_written, chain_written}
 use Rattle.schedule.proofs.Lent.{Room, room}
@@ -35,22 +35,22 @@ use Rattle.slice.proofs.Slice.{slice_length, held_says}
 
 judged_length : (ts : Tables) (n : ℕ) → plan_need ≤ n → (j : Judged Plan) → judge ts ≡ j → length (load_judged ts n j).plan ≡ n
 unfolding load_judged replay
-judged_length ts n h (refused r) e = length-replicate n 0
-judged_length ts n h (accepted p) e = slice_length n ts p [] (first_book p) h e refl
+judged_length ts n h (Err r) e = length-replicate n 0
+judged_length ts n h (Ok p) e = slice_length n ts p [] (first_book p) h e refl
 
 pub load_length : (ts : Tables) (before : List ℕ) → length (load ts before).plan ≡ length before
 unfolding load
 load_length ts before = by (leb plan_need (length before)) refl
   where
     by : (t : Bool) → leb plan_need (length before) ≡ t
-        → length (elim t as (λ _. Load) [ false ↦ record { answer = Loaded.TooShort; plan = before } | true ↦ load_judged ts (length before) (judge ts) ]).plan ≡ length before
+        → length (elim t as (λ _. Load) [ false ↦ record { answer = (Err LoadError.TooShort); plan = before } | true ↦ load_judged ts (length before) (judge ts) ]).plan ≡ length before
     by false e = refl
     by true e = judged_length ts (length before) (leb→le plan_need (length before) (subst T (sym e) tt)) (judge ts) refl
 
 held_length : (s : List ℕ) (r : Report) (o : Option Held) → held s ≡ o → length (report_held s r o).plan ≡ length s
 unfolding report_held
-held_length s r none e = refl
-held_length s r (some h) e = by (acceptable h.plan h.book r) refl
+held_length s r None e = refl
+held_length s r (Some h) e = by (acceptable h.plan h.book r) refl
   where
     by : (t : Bool) → acceptable h.plan h.book r ≡ t
         → length {A = ℕ} (elim t [ true ↦ plan_slice (length s) h.tables (h.log ++ (r ∷ [])) | false ↦ s ]) ≡ length s
@@ -63,7 +63,7 @@ pub report_length : (s : List ℕ) (r : Report) → length (report s r).plan ≡
 unfolding report
 report_length s r = by (leb plan_need (length s))
   where
-    by : (t : Bool) → length (elim t as (λ _. Reporting) [ false ↦ record { answer = Reported.TooShort; plan = s } | true ↦ report_held s r (held s) ]).plan ≡ length s
+    by : (t : Bool) → length (elim t as (λ _. Reporting) [ false ↦ record { answer = (Err ReportError.TooShort); plan = s } | true ↦ report_held s r (held s) ]).plan ≡ length s
     by false = refl
     by true = held_length s r (held s) refl
 
@@ -88,7 +88,7 @@ has_room : (s : List ℕ) (l : Lent) → meets_needs s l ≡ true → Room l
 unfolding meets_needs
 has_room s l e = room l (and_yes (leb plan_need (length s)) (long_enough l) (subst T (sym e) tt)).1
 
-held_logged : (s : List ℕ) (h : Held) → held s ≡ some h → Logged h.plan h.book × (event_count h.plan ≤ 4096)
+held_logged : (s : List ℕ) (h : Held) → held s ≡ Some h → Logged h.plan h.book × (event_count h.plan ≤ 4096)
 held_logged s h e =
     let (n, j, r, q) = held_says s h e in
     (record { tables = h.tables; of_tables = j; log = h.log; replayed = r }, (judged h.tables h.plan j).1)

@@ -1,35 +1,15 @@
 -- Tables written into a slice of zeros, one after the other. Assumes nothing.
-use Prim.Native.Nat.{ℕ, suc, ◌+◌, ◌-◌, ◌≤◌, ◌<◌}
-use native.Mathlib.Numerals.{add-one}
+use Prim.Native.Nat.{ℕ, ◌+◌, ◌-◌, ◌≤◌}
 use native.Mathlib.Omega.{arith}
 use mathlib.Core.Path.{◌≡◌, ap, ap₂, sym, ◌∙◌}
-use mathlib.Core.List.{List, [], ◌∷◌, ◌++◌, append_assoc, append-nil}
-use lib.ListN.{length, take, drop, get_or, set, replicate, length-append, length-drop, replicate-append-replicate, drop_of_length-le}
-use lib.Seq.{set_at, take_at, drop_at, take-suc, drop-cons, take-length, length-take-le}
-use borrow.Rule.Slice.PartMut.{mid_of, put_mid}
-use Rattle.rfc4180.proofs.Reading.{rest_is}
+use mathlib.Core.List.{List, [], ◌++◌, append_assoc}
+use lib.ListN.{length, drop, replicate, length-append, replicate-append-replicate}
+use lib.Seq.{take_at, drop_at}
+use borrow.Rule.Slice.PartMut.{put_mid}
 use Rattle.words.specs.Words.{words, written, padded}
 use Rattle.words.proofs.Padding.{padded_none, padded_length, written_zeros, padded_split}
 use Rattle.floor.specs.Tables.{Tables}
 use Rattle.slice.specs.PlanSlice.{plan_slice}
-
--- ---- a byte more
-
--- one byte more written over the front
-pub front_more : (b s : List ℕ) (i : ℕ) → i < length b → length b ≤ length s
-    → set (take i b ++ drop i s) i (get_or b i 0) ≡ take (i + 1) b ++ drop (i + 1) s
-front_more b s i h f =
-    let l : length (take i b) ≡ i = length-take-le i b (omega arith) in
-    ap (λ (x : List ℕ). set (take i b ++ x) i (get_or b i 0)) (drop-cons s i 0 (omega arith))
-    ∙ set_at (take i b) (get_or s i 0) (drop (suc i) s) (get_or b i 0) i l
-    ∙ sym (append_assoc (take i b) (get_or b i 0 ∷ []) (drop (suc i) s))
-    ∙ ap (λ (x : List ℕ). x ++ drop (suc i) s) (sym (take-suc b i 0 h))
-    ∙ ap (λ (k : ℕ). take k b ++ drop k s) (sym (add-one i))
-
--- all of them
-pub front_all : (b s : List ℕ) (i : ℕ) → i ≡ length b → take i b ++ drop i s ≡ written b s
-unfolding written
-front_all b s i e = ap (λ (k : ℕ). take k b ++ drop k s) e ∙ ap (λ (x : List ℕ). x ++ drop (length b) s) (take-length b)
 
 -- ---- into zeros
 
@@ -37,14 +17,13 @@ front_all b s i e = ap (λ (k : ℕ). take k b ++ drop k s) e ∙ ap (λ (x : Li
 zeros_behind : (m n : ℕ) (a l : List ℕ) → length a ≡ m → (written l (drop m (a ++ replicate (n - m) 0))) ≡ padded (n - m) l
 zeros_behind m n a l e = ap (written l) (drop_at a (replicate (n - m) 0) m e) ∙ written_zeros (n - m) l
 
--- bytes written into the part of a slice from place m on, where zeros follow
-part_written : (m n : ℕ) (a s l w : List ℕ) → m ≤ n → length a ≡ m → s ≡ a ++ replicate (n - m) 0 → w ≡ written l (mid_of m (length s - m) s)
-    → put_mid m (length s - m) s w ≡ a ++ padded (n - m) l
-part_written m n a s l w h e q put =
-    let back : drop (length s - m) (drop m s) ≡ [] = drop_of_length-le (drop m s) {i = length s - m} (omega (arith, length-drop m s)) in
-    ap (λ (x : List ℕ). take m s ++ (w ++ x)) back ∙ ap (λ (x : List ℕ). take m s ++ x) (append-nil w)
-    ∙ ap (λ (x : List ℕ). take m x ++ w) q ∙ ap (λ (x : List ℕ). x ++ w) (take_at a (replicate (n - m) 0) m e)
-    ∙ ap (λ (x : List ℕ). a ++ x) (put ∙ ap (written l) (rest_is s m) ∙ ap (λ (x : List ℕ). written l (drop m x)) q ∙ zeros_behind m n a l e)
+-- bytes put into a slice at place m, where zeros follow
+part_written : (m n k : ℕ) (a s l : List ℕ) → length a ≡ m → s ≡ a ++ replicate (n - m) 0 → k ≡ length l → put_mid m k s l ≡ a ++ padded (n - m) l
+unfolding written
+part_written m n k a s l e q same =
+    ap₂ (λ (j : ℕ) (x : List ℕ). put_mid m j x l) same q
+    ∙ ap (λ (x : List ℕ). x ++ (l ++ drop (length l) (drop m (a ++ replicate (n - m) 0)))) (take_at a (replicate (n - m) 0) m e)
+    ∙ ap (λ (x : List ℕ). a ++ x) (zeros_behind m n a l e)
 
 -- the parts of a log without reports are zeros, and so is what follows
 no_log : (k w n : ℕ) → replicate {A = ℕ} (k + (w + n)) 0 ≡ padded k [] ++ (padded w [] ++ replicate n 0)
@@ -89,24 +68,24 @@ unfolding plan_slice words
 three_parts n ts h a b c = parts 65_536 4096 32_768 n ts.roads ts.carts ts.paths h a b c
 
 -- two parts of m places each, and a third table behind them
-two_parts : (m n : ℕ) (r c p s w v : List ℕ) → m + m ≤ n → length r ≤ m → length c ≤ m → s ≡ padded n r
-    → w ≡ written c (mid_of m (length s - m) s)
-    → v ≡ written p (mid_of (m + m) (length (put_mid m (length s - m) s w) - (m + m)) (put_mid m (length s - m) s w))
-    → put_mid (m + m) (length (put_mid m (length s - m) s w) - (m + m)) (put_mid m (length s - m) s w) v ≡ (padded m r ++ padded m c) ++ padded (n - (m + m)) p
-two_parts m n r c p s w v h a b first second third =
-    let one : s ≡ padded m r ++ replicate (n - m) 0 = first ∙ padded_split m n r a (omega arith) in
-    let two : put_mid m (length s - m) s w ≡ (padded m r ++ padded m c) ++ replicate (n - (m + m)) 0 =
-    part_written m n (padded m r) s c w (omega arith) (padded_length m r a) one second
+two_parts : (m n j k : ℕ) (r c p : List ℕ) → m + m ≤ n → length r ≤ m → length c ≤ m → j ≡ length c → k ≡ length p
+    → put_mid (m + m) k (put_mid m j (padded n r) c) p ≡ (padded m r ++ padded m c) ++ padded (n - (m + m)) p
+two_parts m n j k r c p h a b ej ek =
+    let first : put_mid m j (padded n r) c ≡ (padded m r ++ padded m c) ++ replicate (n - (m + m)) 0 =
+    part_written m n j (padded m r) (padded n r) c (padded_length m r a) (padded_split m n r a (omega arith)) ej
     ∙ ap (λ (x : List ℕ). padded m r ++ x) (padded_split m (n - m) c b (omega arith))
     ∙ sym (append_assoc (padded m r) (padded m c) (replicate (n - m - m) 0))
-    ∙ ap (λ (k : ℕ). (padded m r ++ padded m c) ++ replicate k 0) {x = n - m - m} {y = n - (m + m)} (omega arith) in
-    part_written (m + m) n (padded m r ++ padded m c) (put_mid m (length s - m) s w) p v h
-    (omega (arith, length-append (padded m r) (padded m c), padded_length m r a, padded_length m c b)) two third
+    ∙ ap (λ (i : ℕ). (padded m r ++ padded m c) ++ replicate i 0) {x = n - m - m} {y = n - (m + m)} (omega arith) in
+    part_written (m + m) n k (padded m r ++ padded m c) (put_mid m j (padded n r) c) p
+    (omega (arith, length-append (padded m r) (padded m c), padded_length m r a, padded_length m c b)) first ek
 
 -- the tables, written one after the other into zeros
-pub tables_stored : (n : ℕ) (ts : Tables) (s w v : List ℕ) → 233_472 ≤ n → length ts.roads ≤ 65_536 → length ts.carts ≤ 65_536 → length ts.paths ≤ 65_536
-    → s ≡ padded n ts.roads → w ≡ written ts.carts (mid_of 65_536 (length s - 65_536) s)
-    → v ≡ written ts.paths (mid_of 131_072 (length (put_mid 65_536 (length s - 65_536) s w) - 131_072) (put_mid 65_536 (length s - 65_536) s w))
-    → put_mid 131_072 (length (put_mid 65_536 (length s - 65_536) s w) - 131_072) (put_mid 65_536 (length s - 65_536) s w) v ≡ plan_slice n ts []
-tables_stored n ts s w v h a b c first second third =
-    two_parts 65_536 n ts.roads ts.carts ts.paths s w v (omega arith) a b first second third ∙ three_parts n ts h a b c
+pub tables_stored : (n j k : ℕ) (ts : Tables) (s r c p : List ℕ) → 233_472 ≤ n → length ts.roads ≤ 65_536 → length ts.carts ≤ 65_536 → length ts.paths ≤ 65_536
+    → s ≡ replicate n 0 → r ≡ ts.roads → c ≡ ts.carts → p ≡ ts.paths → j ≡ length ts.carts → k ≡ length ts.paths
+    → put_mid 131_072 k (put_mid 65_536 j (r ++ drop (length ts.roads) s) c) p ≡ plan_slice n ts []
+unfolding written
+tables_stored n j k ts s r c p h hr hc hp zeros er ec ep ej ek =
+    ap₂ (λ (x y : List ℕ). put_mid 131_072 k (put_mid 65_536 j (r ++ drop (length ts.roads) s) x) y) ec ep
+    ∙ ap (λ (x : List ℕ). put_mid 131_072 k (put_mid 65_536 j x ts.carts) ts.paths)
+    (ap₂ (λ (x y : List ℕ). x ++ drop (length ts.roads) y) er zeros ∙ written_zeros n ts.roads)
+    ∙ two_parts 65_536 n j k ts.roads ts.carts ts.paths (omega arith) hr hc ej ek ∙ three_parts n ts h hr hc hp

@@ -1,4 +1,5 @@
 -- A timetable from the bounds of the plan that is held: times or a chain, as the passes find them. Assumes nothing.
+use Rattle.std.specs.Prelude.{Option, None, Some, Ok, Err}
 use Prim.Native.Nat.{ℕ, zero, suc, ◌+◌, ◌*◌, ◌≤◌, ◌<◌}
 use native.Mathlib.Omega.{arith}
 use mathlib.Core.Path.{◌≡◌, refl, ap, ap₂, sym, ◌∙◌, subst}
@@ -6,12 +7,12 @@ use mathlib.Core.Logic.{◌⊎◌, inl, inr}
 use mathlib.Core.Bool.{Bool, true, true≢false, ◌&&◌, cond}
 use mathlib.Core.List.Memᴰ
 use mathlib.Core.List.{List, [], ◌∷◌, ◌++◌, map, flat_map, Memᴰ}
-use mathlib.Core.Option.{Option, none, some, none-ne-some}
 use lib.Dec.{T, leb, leb→le}
 use lib.ListN.{length, get_or, drop, length-map, length-append}
 use lib.Seq.{sets, length-sets}
 use mir.Facts.{and_yes}
 use borrow.Author.Tests.{le-leb, lt-ltb, le-ltb}
+use Rattle.laws.proofs.Options.{none-ne-some}
 use Rattle.laws.proofs.Members.{at_place}
 use Rattle.laws.proofs.Tests.{passes, below_or_not}
 use Rattle.words.specs.Words.{written}
@@ -21,7 +22,7 @@ use Rattle.network.specs.Bounds.{Bound, bounds}
 use Rattle.network.specs.BoundArrays.{bound_ends, hi_number, bound_range, bounds_in}
 use Rattle.network.proofs.Routes.{event_count_is}
 use Rattle.network.proofs.Judged.{judged}
-use Rattle.network.proofs.BoundArrays.{bounds_held}
+use Rattle.network.proofs.ReadBack.{bounds_held}
 use Rattle.network.proofs.BoundStores.{by_ends, by_range, pairs_length, front_stored}
 use Rattle.schedule.specs.Book.{Book}
 use Rattle.schedule.specs.Added.{added_bounds, all_bounds, numbered_bounds}
@@ -36,16 +37,17 @@ use Rattle.slice.proofs.Slice.{held_says}
 use Rattle.passes.specs.declared.Solved.{Solved}
 use Rattle.passes.specs.Solving.{bounds_fit, network_fits, times_of, Pick, leg_at, no_bound, picked_legs, number_of, picked, Solves, timed, cycle, Solving, unfit, solved}
 use Rattle.passes.proofs.Fitting.{Fitting, fitting_passes}
-use Rattle.hegtalim.specs.declared.Timed.{Timed}
+use Rattle.hegtalim.specs.declared.TimeError.{TimeError}
+use Rattle.hegtalim.specs.Answers.{Timed}
 use Rattle.hegtalim.specs.Outcomes.{meets_needs, Timetabled, no_times}
 use Rattle.hegtalim.specs.Outcomes as outcomes
 use Rattle.hegtalim.specs.Working.{Worked, done, no_room}
 
 -- the answer to what is found
-abbrev pub told : Solved → Timed
-told Solved.Unfit = Timed.TooShort
-told (Solved.Times k) = Timed.Times k
-told (Solved.Cycle n c) = Timed.NoTimes n
+abbrev pub told : Option Solved → Timed
+told None = (Err TimeError.TooShort)
+told (Some (Solved.Times k)) = Ok k
+told (Some (Solved.Cycle c)) = Err (TimeError.NoTimes c.length)
 
 -- ---- a chain by places is one by numbers
 
@@ -60,7 +62,7 @@ module _ (p : Plan) (b : Book) (l : Logged p b) where
   few = (judged l.tables p l.of_tables).2
 
   -- the bound at a place, and that there is one
-  leg_is : (cs : List Bound) (i : ℕ) (d : Direction) (x : Leg) → leg_at cs i d ≡ some x → (i < length cs) × (leg (get_or cs i no_bound) d ≡ some x)
+  leg_is : (cs : List Bound) (i : ℕ) (d : Direction) (x : Leg) → leg_at cs i d ≡ Some x → (i < length cs) × (leg (get_or cs i no_bound) d ≡ Some x)
   unfolding leg_at
   leg_is [] i d x e = absurd (none-ne-some _ e)
   leg_is (c ∷ cs) zero d x e = (omega arith, e)
@@ -94,18 +96,18 @@ module _ (p : Plan) (b : Book) (l : Logged p b) where
           (added_number p b (logged_kept p b l) few c (in_second (bounds p) (added_bounds p b) i no_bound k h))
 
   -- so the legs are the same
-  legs_picked : (is : List Pick) (ls : List Leg) → picked_legs bs is ≡ some ls → legs (numbered_bounds p b) (map (picked own bs) is) ≡ some ls
+  legs_picked : (is : List Pick) (ls : List Leg) → picked_legs bs is ≡ Some ls → legs (numbered_bounds p b) (map (picked own bs) is) ≡ Some ls
   unfolding picked_legs legs picked
   legs_picked [] ls e = e
   legs_picked (i ∷ is) ls e = by (leg_at bs i.place i.direction) (picked_legs bs is) refl refl e (legs_picked is)
     where
       by : (o : Option Leg) (q : Option (List Leg)) → leg_at bs i.place i.direction ≡ o → picked_legs bs is ≡ q
-          → ◌≡◌ {A = Option (List Leg)} (elim o [ none ↦ none | some x ↦ elim q [ none ↦ none | some xs ↦ some (x ∷ xs) ] ]) (some ls)
-          → ((xs : List Leg) → picked_legs bs is ≡ some xs → legs (numbered_bounds p b) (map (picked own bs) is) ≡ some xs)
-          → legs (numbered_bounds p b) (map (picked own bs) (i ∷ is)) ≡ some ls
-      by none q a c e more = absurd (none-ne-some _ e)
-      by (some x) none a c e more = absurd (none-ne-some _ e)
-      by (some x) (some xs) a c e more =
+          → ◌≡◌ {A = Option (List Leg)} (elim o [ None ↦ None | Some x ↦ elim q [ None ↦ None | Some xs ↦ Some (x ∷ xs) ] ]) (Some ls)
+          → ((xs : List Leg) → picked_legs bs is ≡ Some xs → legs (numbered_bounds p b) (map (picked own bs) is) ≡ Some xs)
+          → legs (numbered_bounds p b) (map (picked own bs) (i ∷ is)) ≡ Some ls
+      by None q a c e more = absurd (none-ne-some _ e)
+      by (Some x) None a c e more = absurd (none-ne-some _ e)
+      by (Some x) (Some xs) a c e more =
           let (h, g) = leg_is bs i.place i.direction x a in
           legs_cons (numbered_bounds p b) (picked own bs i) (map (picked own bs) is) x xs
           ((number_leads i.place h).leads i.direction ∙ g) (more xs c)
@@ -121,10 +123,10 @@ module _ (p : Plan) (b : Book) (l : Logged p b) where
       ap (λ (x : Bool). x && bounds_fit n cs) (fitting_passes n c (h c (Memᴰ.head refl))) ∙ each_fit cs n (λ x m. h x (Memᴰ.tail m))
 
   -- a hi as a number
-  hi_small : (o : Option ℕ) → ((h : ℕ) → o ≡ some h → h ≤ 1_000_000_000_000) → hi_number o ≤ 1_000_000_000_001
+  hi_small : (o : Option ℕ) → ((h : ℕ) → o ≡ Some h → h ≤ 1_000_000_000_000) → hi_number o ≤ 1_000_000_000_001
   unfolding hi_number
-  hi_small none g = omega arith
-  hi_small (some h) g = omega (arith, g h refl)
+  hi_small None g = omega arith
+  hi_small (Some h) g = omega (arith, g h refl)
 
   -- all of them
   bounds_fits : bounds_fit (event_count p) bs ≡ true
@@ -184,7 +186,7 @@ fits_says m n ends ranges more e =
 
 -- ---- what is found
 
-module _ (s : List ℕ) (h : Held) (e : held s ≡ some h) (lent : Lent) (met : meets_needs s lent ≡ true) where
+module _ (s : List ℕ) (h : Held) (e : held s ≡ Some h) (lent : Lent) (met : meets_needs s lent ≡ true) where
   -- the plan and the book of a log
   pub logged : Logged h.plan h.book
   logged = let (_, j, r, _) = held_says s h e in record { tables = h.tables; of_tables = j; log = h.log; replayed = r }
@@ -196,14 +198,14 @@ module _ (s : List ℕ) (h : Held) (e : held s ≡ some h) (lent : Lent) (met : 
   its_own = length (bounds h.plan)
 
   -- times or a chain of its bounds are a timetable's
-  by_bounds : (a : Solved) (lent' : Lent) → Solves its_own (event_count h.plan) all lent a lent' → Timetabled s lent (told a) lent'
+  by_bounds : (a : Solved) (lent' : Lent) → Solves its_own (event_count h.plan) all lent a lent' → Timetabled s lent (told (Some a)) lent'
   unfolding times_of timetable arcs is_chain
   by_bounds a lent' (timed t q) = outcomes.timed met h e t q
   by_bounds a lent' (cycle q is ls k c) =
       let items : List Item = map (picked its_own all) is in
       let chain : T (closed_below_0 (legs (numbered_bounds h.plan h.book) items)) =
       subst (λ (o : Option (List Leg)). T (closed_below_0 o)) (sym (legs_picked h.plan h.book logged is ls k)) c in
-      subst (λ (n : ℕ). Timetabled s lent (Timed.NoTimes n) (chain_written items lent)) (length-map is (picked its_own all)) (no_times met h e q items chain)
+      subst (λ (n : ℕ). Timetabled s lent (Err (TimeError.NoTimes n)) (chain_written items lent)) (length-map is (picked its_own all)) (no_times met h e q items chain)
 
   -- the three slices lent have room
   lent_there : long_enough lent ≡ true
@@ -214,7 +216,7 @@ module _ (s : List ℕ) (h : Held) (e : held s ≡ some h) (lent : Lent) (met : 
   module _ (n own m : ℕ) (qn : n ≡ event_count h.plan) (qo : own ≡ its_own) (qm : m ≡ length all) (ends₀ ranges₀ ends ranges : List ℕ)
       (qe : ends ≡ sets ends₀ 0 (flat_map bound_ends all)) (qr : ranges ≡ sets ranges₀ 0 (flat_map bound_range all)) where
     -- is found of these bounds, unless there is no room
-    of_bounds : (a : Solved) (lent' : Lent) → Solving its_own (length all) (event_count h.plan) ends ranges lent a lent' → Worked (length ends₀) (length ranges₀) s lent (told a) lent'
+    of_bounds : (a : Option Solved) (lent' : Lent) → Solving its_own (length all) (event_count h.plan) ends ranges lent a lent' → Worked (length ends₀) (length ranges₀) s lent (told a) lent'
     of_bounds a lent' (unfit q) = no_room (by (below_or_not (length ends₀) 24_576) (below_or_not (length ranges₀) 24_576))
       where
         by : (length ends₀ < 24_576) ⊎ (24_576 ≤ length ends₀) → (length ranges₀ < 24_576) ⊎ (24_576 ≤ length ranges₀) → (length ends₀ < 24_576) ⊎ (length ranges₀ < 24_576)
@@ -228,11 +230,11 @@ module _ (s : List ℕ) (h : Held) (e : held s ≡ some h) (lent : Lent) (met : 
         let (he, hr) = fits_says (length all) (event_count h.plan) ends ranges (long_enough lent) q in
         let room : 2 * length all ≤ length ends₀ = omega (arith, he, ends_long h.plan h.book logged ends₀ ranges₀ ends ranges qe qr) in
         let rooms : 2 * length all ≤ length ranges₀ = omega (arith, hr, ranges_long h.plan h.book logged ends₀ ranges₀ ends ranges qe qr) in
-        done (told x) y (by_bounds x y (
+        done (told (Some x)) y (by_bounds x y (
         subst (λ (cs : List Bound). Solves its_own (event_count h.plan) cs lent x y) (bounds_there h.plan h.book logged ends₀ ranges₀ ends ranges qe qr room rooms) w))
 
     -- whatever their numbers are called
-    pub solving_is : (a : Solved) (lent' : Lent) → Solving own m n ends ranges lent a lent' → Worked (length ends₀) (length ranges₀) s lent (told a) lent'
+    pub solving_is : (a : Option Solved) (lent' : Lent) → Solving own m n ends ranges lent a lent' → Worked (length ends₀) (length ranges₀) s lent (told a) lent'
     solving_is a lent' w =
         of_bounds a lent'
         (subst (λ (k : ℕ). Solving its_own (length all) k ends ranges lent a lent') qn

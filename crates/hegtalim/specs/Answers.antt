@@ -1,41 +1,45 @@
 -- The answers' numbers (document 01, "Turned down because of the input" and "… of the state").
 -- Assumes nothing.
-use Rattle.std.specs.Prelude.{ℕ, ◌+◌, ◌*◌, ◌^◌}
+use Rattle.std.specs.Prelude.{ℕ, ◌+◌, ◌*◌, ◌^◌, Result, Ok, Err}
 use Rattle.floor.specs.Refusal.{reason_number, table_number}
-use Rattle.hegtalim.specs.declared.Loaded.{Loaded}
-use Rattle.hegtalim.specs.declared.Reported.{Reported}
-use Rattle.hegtalim.specs.declared.Timed.{Timed}
-
--- "A refusal gives its number, the table … and the record"; refusal 0 is none. The value is a load's record, the passes of times, or a chain's length
-pub record Answer : Type 0 where
-  pub refusal : ℕ
-  pub table : ℕ
-  pub value : ℕ
+use Rattle.tables.specs.declared.ReadError.{ReadError as LoadError}
+use Rattle.hegtalim.specs.declared.ReportError.{ReportError}
+use Rattle.hegtalim.specs.declared.TimeError.{TimeError}
+use Rattle.hegtalim.specs.declared.answer.Answer.{Answer}
 
 -- "table and record 0"
 unfoldable pub plain : ℕ → Answer
 plain n = record { refusal = n; table = 0; value = 0 }
 
 -- a load's
+abbrev pub Loaded : Type 0
+Loaded = Result (Unit {0}) LoadError
+
 unfoldable pub loaded_answer : Loaded → Answer
-loaded_answer Loaded.Held = plain 0
-loaded_answer Loaded.TooShort = plain 14
-loaded_answer (Loaded.Refused r) = record { refusal = reason_number r.reason; table = table_number r.table; value = r.row }
+loaded_answer (Ok tt) = plain 0
+loaded_answer (Err LoadError.TooShort) = plain 14
+loaded_answer (Err (LoadError.Refused r)) = record { refusal = reason_number r.reason; table = table_number r.table; value = r.row }
 
 -- a report's
-unfoldable pub reported_answer : Reported → Answer
-reported_answer Reported.Taken = plain 0
-reported_answer Reported.TooShort = plain 14
-reported_answer Reported.NoPlan = plain 10  -- "no plan held"
-reported_answer Reported.NoPoint = plain 11  -- "no such cart, or its last event has been passed"
-reported_answer Reported.BadTime = plain 12  -- "a time below the clock or over 10^12"
+abbrev pub Reported : Type 0
+Reported = Result (Unit {0}) ReportError
 
--- a timetable's
+unfoldable pub reported_answer : Reported → Answer
+reported_answer (Ok tt) = plain 0
+reported_answer (Err ReportError.TooShort) = plain 14
+reported_answer (Err ReportError.NoPlan) = plain 10  -- "no plan held"
+reported_answer (Err ReportError.NoPoint) = plain 11  -- "no such cart, or its last event has been passed"
+reported_answer (Err ReportError.BadTime) = plain 12  -- "a time below the clock or over 10^12"
+
+-- a timetable's: the number of passes, or why there are no times
+abbrev pub Timed : Type 0
+Timed = Result ℕ TimeError
+
 unfoldable pub timed_answer : Timed → Answer
-timed_answer (Timed.Times k) = record { refusal = 0; table = 0; value = k }
-timed_answer Timed.TooShort = plain 14
-timed_answer Timed.NoPlan = plain 10
-timed_answer (Timed.NoTimes n) = record { refusal = 13; table = 0; value = n }  -- "its length given in the answer"
+timed_answer (Ok k) = record { refusal = 0; table = 0; value = k }
+timed_answer (Err TimeError.TooShort) = plain 14
+timed_answer (Err TimeError.NoPlan) = plain 10
+timed_answer (Err (TimeError.NoTimes n)) = record { refusal = 13; table = 0; value = n }  -- "its length given in the answer"
 
 -- the one number that a C function returns: the refusal in the low byte, the table in the next, the value from bit 32 up
 unfoldable pub c_number : Answer → ℕ

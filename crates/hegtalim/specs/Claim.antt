@@ -1,9 +1,7 @@
 -- Demand 3 as one claim about whole lists of calls, and what 10 means, over the outcomes (document 01, "Reports and timetable").
 -- Assumes nothing.
-use Rattle.std.specs.Prelude.{ℕ, ◌<◌, ◌≡◌, ◌↔◌, ◌≢◌, List, [], ◌∷◌, map, T, pos, ◌≤ℤ◌, length, get_or, take}
-use Rattle.std.proofs.Math.Option.{some}
+use Rattle.std.specs.Prelude.{ℕ, ◌<◌, ◌≡◌, ◌↔◌, ◌≢◌, List, [], ◌∷◌, map, T, pos, ◌≤ℤ◌, length, get_or, take, Some, Ok, Err}
 use Rattle.words.specs.Words.{word_at}
-use Rattle.floor.specs.Refusal.{accepted}
 use Rattle.floor.specs.Plan.{Plan}
 use Rattle.floor.specs.Tables.{Tables}
 use Rattle.network.specs.Events.{event_count}
@@ -14,9 +12,9 @@ use Rattle.schedule.specs.Book.{Report, Book, first_book, book_after}
 use Rattle.schedule.specs.Fits.{Fits}
 use Rattle.schedule.specs.Timetable.{arcs}
 use Rattle.schedule.specs.Chain.{Item, direction_number, is_chain}
-use Rattle.hegtalim.specs.declared.Loaded.{Loaded}
-use Rattle.hegtalim.specs.declared.Reported.{Reported}
-use Rattle.hegtalim.specs.declared.Timed.{Timed}
+use Rattle.hegtalim.specs.Answers.{Reported}
+use Rattle.hegtalim.specs.declared.TimeError.{TimeError}
+use Rattle.hegtalim.specs.Answers.{Timed}
 use Rattle.slice.specs.PlanSlice.{Held, held}
 use Rattle.schedule.specs.Lent.{Lent, long_enough}
 use Rattle.hegtalim.specs.Outcomes.{load, book_answer, report, Timetabled}
@@ -61,7 +59,7 @@ abbrev pub Right : Plan → Book → Call → Reply → Type 0
 Right p b (reporting r) (reported a) = a ≡ book_answer p b r
 Right p b (reporting r) (timed a) = ⊥
 Right p b (timing l) (reported a) = ⊥
-Right p b (timing l) (timed a) = (a ≢ Timed.NoPlan) × ((a ≡ Timed.TooShort) ↔ (¬ T (long_enough l)))
+Right p b (timing l) (timed a) = (a ≢ (Err TimeError.NoPlan)) × ((a ≡ (Err TimeError.TooShort)) ↔ (¬ T (long_enough l)))
 
 -- each call of the list, by the book as the calls before it left it
 abbrev pub AllRight : Plan → Book → List Call → List Reply → Type 0
@@ -94,17 +92,17 @@ pub record Impossible (p : Plan) (b : Book) (l : Lent) (n : ℕ) : Type 0 where
 
 -- "Times are returned exactly when some fit.": those returned do, and where a chain is handed over none does
 abbrev pub Truthful : Plan → Book → Timed → Lent → Type 0
-Truthful p b (Timed.Times k) l = Earliest p b (times_in l.times) k
-Truthful p b Timed.TooShort l = ⊥
-Truthful p b Timed.NoPlan l = ⊥
-Truthful p b (Timed.NoTimes n) l = Impossible p b l n
+Truthful p b (Ok k) l = Earliest p b (times_in l.times) k
+Truthful p b (Err TimeError.TooShort) l = ⊥
+Truthful p b (Err TimeError.NoPlan) l = ⊥
+Truthful p b (Err (TimeError.NoTimes n)) l = Impossible p b l n
 
 -- ---- the claim
 
 -- what holds after an accepted load of these tables and this list of calls, which left the plan slice s
 pub record Holds (ts : Tables) (calls : List Call) (replies : List Reply) (s : List ℕ) : Type 0 where
   pub plan : Plan
-  pub of_tables : judge ts ≡ accepted plan
+  pub of_tables : judge ts ≡ Ok plan
   pub replied : AllRight plan (first_book plan) calls replies
   -- "for a timetable called after it and not turned down for its own slices"
   pub timetable : (l l' : Lent) (a : Timed) → T (long_enough l) → Timetabled s l a l'
@@ -115,7 +113,7 @@ pub record Holds (ts : Tables) (calls : List Call) (replies : List Reply) (s : L
 -- demand 3: "From an accepted load on, for every list of reports and timetables, refused ones included"
 abbrev pub Demand3 : Type 0
 Demand3 =
-    (ts : Tables) (before : List ℕ) → (load ts before).answer ≡ Loaded.Held
+    (ts : Tables) (before : List ℕ) → (load ts before).answer ≡ (Ok tt)
     → (calls : List Call) (replies : List Reply) (s : List ℕ) → Played (load ts before).plan calls replies s
     → Holds ts calls replies s
 
@@ -127,12 +125,12 @@ Answered = (s : List ℕ) (l : Lent) → (a : Timed) × (l' : Lent) × Timetable
 
 -- what an "accepted load, with accepted reports since, leaves"
 pub data Left : List ℕ → Type 0 where
-  by_load : (ts : Tables) (before : List ℕ) → (load ts before).answer ≡ Loaded.Held → Left (load ts before).plan
-  by_report : (s : List ℕ) (r : Report) → Left s → (report s r).answer ≡ Reported.Taken → Left (report s r).plan
+  by_load : (ts : Tables) (before : List ℕ) → (load ts before).answer ≡ (Ok tt) → Left (load ts before).plan
+  by_report : (s : List ℕ) (r : Report) → Left s → (report s r).answer ≡ (Ok tt) → Left (report s r).plan
 
 -- "10: no plan held: the plan slices hold bytes that no accepted load, with accepted reports since, leaves."
 abbrev pub Refusal10 : Type 0
-Refusal10 = (s : List ℕ) → ((h : Held) × (held s ≡ some h)) ↔ Left s
+Refusal10 = (s : List ℕ) → ((h : Held) × (held s ≡ Some h)) ↔ Left s
 
 -- Names every definition of this module, for a proof that computes with them all.
 unfoldable pub open_claim : Unit {0}

@@ -1,4 +1,5 @@
 pub mod Answers
+pub mod Errors
 pub mod Outcomes
 pub mod Working
 pub mod Claim

@@ -2,3 +2,4 @@ pub mod Signed
 pub mod Members
 pub mod Tests
 pub mod Rising
+pub mod Options

@@ -1,12 +1,13 @@
 -- The members of lists that are made from others. Assumes nothing.
+use Rattle.std.specs.Prelude.{None, Some}
 use Prim.Native.Nat.{ℕ, zero, suc, ◌<◌}
 use native.Mathlib.Omega.{arith}
 use mathlib.Core.Path.{◌≡◌, refl, sym, subst}
 use mathlib.Core.Logic.{⊎_elim}
 use mathlib.Core.List.Memᴰ
 use mathlib.Core.List.{List, [], ◌∷◌, tail, flat_map, Memᴰ}
-use mathlib.Core.Option.{none, some, none-ne-some}
 use lib.ListN.{length, get_or, drop, replicate}
+use Rattle.laws.proofs.Options.{none-ne-some}
 
 -- ---- lists put together of lists
 
@@ -54,7 +55,7 @@ any_default (x ∷ xs) zero d e h = refl
 any_default (x ∷ xs) (suc i) d e h = any_default xs i d e (omega arith)
 
 -- nothing stands in a list of none
-pub none_there : {A : Type 0} (n i : ℕ) (x : A) → get_or (replicate n none) i none ≡ some x → ⊥
+pub none_there : {A : Type 0} (n i : ℕ) (x : A) → get_or (replicate n None) i None ≡ Some x → ⊥
 none_there zero i x e = none-ne-some _ e
 none_there (suc n) zero x e = none-ne-some _ e
 none_there (suc n) (suc i) x e = none_there n i x e

@@ -1,19 +1,18 @@
 -- Visits linked for counting: where the next visit of a remainder counts in place of one, that one is left out, and as many are counted.
 -- Assumes nothing.
-use Prim.Native.Nat.{ℕ, zero, suc, ◌+◌, ◌-◌, ◌%◌, ◌≤◌, ◌<◌}
-use native.Mathlib.Nat.{eq-or-lt_of_le}
-use native.Mathlib.Numerals.{add-one}
+use Rattle.std.proofs.lemmas.Bool.Decides.{nat_tests}
+use Prim.Native.Nat.{ℕ, zero, suc, ◌-◌, ◌%◌, ◌≤◌, ◌<◌}
 use native.Mathlib.Omega.{arith}
 use mathlib.Core.Path.{◌≡◌, refl, ap, ap₂, sym, ◌∙◌, subst}
-use mathlib.Core.Logic.{◌≢◌, ⊎_elim}
-use mathlib.Core.Bool.{Bool, true, false, true≢false, not, ◌&&◌, cond}
+use mathlib.Core.Logic.{◌≢◌}
+use mathlib.Core.Bool.{Bool, true, false, cond}
 use mathlib.Core.List.{List, ◌∷◌}
-use lib.Dec.{T, leb, ltb, eqb, leb→le, eqb→eq}
+use lib.Dec.{T, ltb, eqb}
 use mir.Facts.{and_yes}
-use lib.ListN.{length, get_or, set}
-use lib.Seq.{get_or-set_same, get_or-set_other}
-use borrow.Author.Tests.{ltb-true, eqb-true, eqb-false, lt-ltb}
-use Rattle.limits.specs.Counts.{Stop, counts, later_carts, stop_at, stops_in, stands_for, left_out, Does, Chained}
+use lib.ListN.{get_or}
+use borrow.Author.Tests.{eqb-true, eqb-false}
+use Rattle.limits.specs.declared.row.Stop.{Stop}
+use Rattle.limits.specs.Counts.{counts, later_carts, stop_at, stops_in, stands_for, left_out, left_by, LinkedBy, Does, Chained}
 use Rattle.limits.proofs.Few.{counted_cart, passed_over}
 use Rattle.limits.proofs.Links.{other_cell}
 
@@ -22,24 +21,12 @@ use Rattle.limits.proofs.Links.{other_cell}
 -- the cart and the cell are the same, and the step is not earlier
 stands_says : (h u : Stop) → T (stands_for h u) → (u.cart ≡ h.cart) × (u.cell ≡ h.cell) × (u.step ≤ h.step)
 unfolding stands_for
-stands_says h u t =
-    let (same, later) = and_yes (eqb u.cart h.cart && eqb u.cell h.cell) (leb u.step h.step) t in
-    let (cart, cell) = and_yes (eqb u.cart h.cart) (eqb u.cell h.cell) same in
-    (eqb→eq u.cart h.cart cart, eqb→eq u.cell h.cell cell, leb→le u.step h.step later)
+stands_says h u t = grind (arith, nat_tests)
 
 -- where the one counts the other does
 stands_counts : (v h u : Stop) (k : ℕ) → u.cart ≡ h.cart → u.cell ≡ h.cell → u.step ≤ h.step → counts v k u ≡ true → counts v k h ≡ true
 unfolding counts
-stands_counts v h u k cart cell later e =
-    ap (λ (x : ℕ). not (eqb v.cart x) && not (eqb k x) && (ltb v.step h.step && eqb v.cell h.cell)) (sym cart)
-    ∙ ap (λ (x : ℕ). not (eqb v.cart u.cart) && not (eqb k u.cart) && (ltb v.step h.step && eqb v.cell x)) (sym cell)
-    ∙ by (not (eqb v.cart u.cart) && not (eqb k u.cart)) (ltb v.step u.step) (ltb v.step h.step) (eqb v.cell u.cell) e
-    (λ q. lt-ltb v.step h.step (omega (arith, ltb-true v.step u.step q)))
-  where
-    by : (a b c d : Bool) → (a && (b && d)) ≡ true → (b ≡ true → c ≡ true) → (a && (c && d)) ≡ true
-    by true true c d e f = ap (λ (b : Bool). b && d) (f refl) ∙ e
-    by true false c d e f = absurd (true≢false (sym e))
-    by false b c d e f = e
+stands_counts v h u k cart cell later e = grind (arith, nat_tests)
 
 -- so that it is counted in its place
 stands_same : (v h u : Stop) (k : ℕ) (us : List Stop) → T (stands_for h u) → later_carts v k (u ∷ (h ∷ us)) ≡ later_carts v k (h ∷ us)
@@ -108,70 +95,32 @@ module _ (ns ts cs : List ℕ) (n : ℕ) where
 
   -- ---- linking
 
-  -- no visit is linked yet
-  pub none_chained : (heads nexts : List ℕ) → ((b : ℕ) → b < 1024 → get_or heads b 0 ≡ 0) → Chained ns ts cs heads nexts n 0
-  none_chained heads nexts h =
+  -- those that the linking does not leave out do for all
+  does_by : (b l : ℕ) → l ≤ n → Does ns ts cs n b l (left_by (left_out ns ts cs n) cs b l (n - l))
+  unfolding left_by
+  does_by b zero h = record { fewer = omega arith; there = λ k. absurd (omega arith); same = λ v k r. refl }
+  does_by b (suc l) h =
+      let u : ℕ = n - suc l in
+      let next : n - l ≡ suc u = omega arith in
+      subst
+      (λ (i : ℕ). let m = left_by (left_out ns ts cs n) cs b l i in Does ns ts cs n b (suc l) (cond (eqb (get_or cs u 0 % 1024) b) (cond (left_out ns ts cs n u m) m (suc l)) m))
+      next (by (eqb (get_or cs u 0 % 1024) b) refl (left_out ns ts cs n u m) refl (does_by b l (omega arith)))
+    where
+      m : ℕ
+      m = left_by (left_out ns ts cs n) cs b l (n - l)
+
+      by : (t : Bool) → eqb (get_or cs (n - suc l) 0 % 1024) b ≡ t → (o : Bool) → left_out ns ts cs n (n - suc l) m ≡ o → Does ns ts cs n b l m
+          → Does ns ts cs n b (suc l) (cond t (cond o m (suc l)) m)
+      by true e true f d = left_does b l h m d (subst T (sym f) tt)
+      by true e false f d = linked_does b l h (eqb-true (get_or cs (n - suc l) 0 % 1024) b e)
+      by false e o f d = other_does b l h m d (eqb-false (get_or cs (n - suc l) 0 % 1024) b e)
+
+  pub chained : (heads nexts : List ℕ) → LinkedBy (left_out ns ts cs n) cs heads nexts n n → Chained ns ts cs heads nexts n n
+  chained heads nexts k =
       record {
-        heads_do = λ b l. subst (Does ns ts cs n b 0) (sym (h b l)) (record { fewer = omega arith; there = λ k. absurd (omega arith); same = λ v k r. refl });
-        nexts_do = λ l k. absurd (omega arith);
+        heads_do = λ b h. subst (Does ns ts cs n b n) (sym (k.heads_are b h)) (does_by b n (omega arith));
+        nexts_do = λ l h. subst (Does ns ts cs n (get_or cs (n - suc l) 0 % 1024) l) (sym (k.nexts_are l h)) (does_by (get_or cs (n - suc l) 0 % 1024) l (omega arith));
       }
-
-  module _ (heads nexts : List ℕ) (left : ℕ) (c : Chained ns ts cs heads nexts n left) (l : left < n) (r : ℕ) (q : get_or cs (n - suc left) 0 % 1024 ≡ r) (small : r < 1024) (room : n ≤ length nexts) where
-    -- the next to each
-    next_does : (m : ℕ) → m < suc left → Does ns ts cs n (get_or cs (n - suc m) 0 % 1024) m (get_or (set nexts (n - suc left) (get_or heads r 0)) (n - suc m) 0)
-    next_does m h = ⊎_elim here there (eq-or-lt_of_le h)
-      where
-        here : suc m ≡ suc left → Does ns ts cs n (get_or cs (n - suc m) 0 % 1024) m (get_or (set nexts (n - suc left) (get_or heads r 0)) (n - suc m) 0)
-        here e =
-            let same : left ≡ m = omega arith in
-            subst (λ (x : ℕ). Does ns ts cs n (get_or cs (n - suc x) 0 % 1024) x (get_or (set nexts (n - suc left) (get_or heads r 0)) (n - suc x) 0)) same
-            (subst (Does ns ts cs n (get_or cs (n - suc left) 0 % 1024) left) (sym (get_or-set_same nexts (n - suc left) (get_or heads r 0) 0 (omega arith)))
-            (subst (λ (b : ℕ). Does ns ts cs n b left (get_or heads r 0)) (sym q) (c.heads_do r small)))
-
-        there : suc m < suc left → Does ns ts cs n (get_or cs (n - suc m) 0 % 1024) m (get_or (set nexts (n - suc left) (get_or heads r 0)) (n - suc m) 0)
-        there e =
-            let other : n - suc m ≢ n - suc left = λ s. omega arith in
-            subst (Does ns ts cs n (get_or cs (n - suc m) 0 % 1024) m) (sym (get_or-set_other nexts (n - suc left) (n - suc m) (get_or heads r 0) 0 other)) (c.nexts_do m (omega arith))
-
-    -- the visit is linked
-    linked_suc : r < length heads → Chained ns ts cs (set heads r (suc left)) (set nexts (n - suc left) (get_or heads r 0)) n (suc left)
-    linked_suc wide = record { heads_do = λ b h. by (eqb r b) refl h; nexts_do = next_does }
-      where
-        by : {b : ℕ} (t : Bool) → eqb r b ≡ t → b < 1024 → Does ns ts cs n b (suc left) (get_or (set heads r (suc left)) b 0)
-        by {b} true e h =
-            subst (λ (x : ℕ). Does ns ts cs n x (suc left) (get_or (set heads r (suc left)) x 0)) (eqb-true r b e)
-            (subst (Does ns ts cs n r (suc left)) (sym (get_or-set_same heads r (suc left) 0 wide)) (linked_does r left l q))
-        by {b} false e h =
-            let other : b ≢ r = λ s. eqb-false r b e (sym s) in
-            subst (Does ns ts cs n b (suc left)) (sym (get_or-set_other heads r b (suc left) 0 other))
-            (other_does b left l (get_or heads b 0) (c.heads_do b h) (λ s. other (sym s ∙ q)))
-
-    -- the visit is left out
-    left_suc : T (left_out ns ts cs n (n - suc left) (get_or heads r 0)) → Chained ns ts cs heads (set nexts (n - suc left) (get_or heads r 0)) n (suc left)
-    left_suc out = record { heads_do = λ b h. by (eqb r b) refl h; nexts_do = next_does }
-      where
-        by : {b : ℕ} (t : Bool) → eqb r b ≡ t → b < 1024 → Does ns ts cs n b (suc left) (get_or heads b 0)
-        by {b} true e h =
-            subst (λ (x : ℕ). Does ns ts cs n x (suc left) (get_or heads x 0)) (eqb-true r b e) (left_does r left l (get_or heads r 0) (c.heads_do r small) out)
-        by {b} false e h = other_does b left l (get_or heads b 0) (c.heads_do b h) (λ s. eqb-false r b e (sym q ∙ s))
-
-  -- the same, as the code counts
-  module _ (heads nexts : List ℕ) (left : ℕ) (c : Chained ns ts cs heads nexts n left) (l : left < n) (r : ℕ) where
-    -- linked
-    pub one_chained : get_or cs (n - (left + 1)) 0 % 1024 ≡ r → r < 1024 → n ≤ length nexts → r < length heads
-        → Chained ns ts cs (set heads r (left + 1)) (set nexts (n - (left + 1)) (get_or heads r 0)) n (left + 1)
-    one_chained =
-        subst
-        (λ (m : ℕ). get_or cs (n - m) 0 % 1024 ≡ r → r < 1024 → n ≤ length nexts → r < length heads → Chained ns ts cs (set heads r m) (set nexts (n - m) (get_or heads r 0)) n m)
-        (sym (add-one left)) (linked_suc heads nexts left c l r)
-
-    -- left out
-    pub one_left : get_or cs (n - (left + 1)) 0 % 1024 ≡ r → r < 1024 → n ≤ length nexts → T (left_out ns ts cs n (n - (left + 1)) (get_or heads r 0))
-        → Chained ns ts cs heads (set nexts (n - (left + 1)) (get_or heads r 0)) n (left + 1)
-    one_left =
-        subst
-        (λ (m : ℕ). get_or cs (n - m) 0 % 1024 ≡ r → r < 1024 → n ≤ length nexts → T (left_out ns ts cs n (n - m) (get_or heads r 0)) → Chained ns ts cs heads (set nexts (n - m) (get_or heads r 0)) n m)
-        (sym (add-one left)) (left_suc heads nexts left c l r)
 
   -- ---- the visits linked, one after the other
 
@@ -179,10 +128,7 @@ module _ (ns ts cs : List ℕ) (n : ℕ) where
     -- at the first all carts are yet to be counted
     pub chain_begins : (left : ℕ) → left ≡ get_or heads (v.cell % 1024) 0
         → (left ≤ n) × (0 < left → get_or cs (n - left) 0 % 1024 ≡ v.cell % 1024) × (later_carts v 0 (last left) ≡ later_carts v 0 (stops_in ns ts cs n 0))
-    chain_begins left e =
-        let none : n - n ≡ 0 = omega arith in
-        let d : Does ns ts cs n (v.cell % 1024) n left = subst (Does ns ts cs n (v.cell % 1024) n) (sym e) (c.heads_do (v.cell % 1024) (omega arith)) in
-        (d.fewer, d.there, sym (d.same v 0 refl) ∙ ap (λ (i : ℕ). later_carts v 0 (stops_in ns ts cs n i)) none)
+    chain_begins left e = grind (arith, nat_tests)
 
     -- those from the next on do for the others
     next_does_at : (l : ℕ) → suc l ≤ n → get_or cs (n - suc l) 0 % 1024 ≡ v.cell % 1024 → (next : ℕ) → next ≡ get_or nexts (n - suc l) 0 → Does ns ts cs n (v.cell % 1024) l next

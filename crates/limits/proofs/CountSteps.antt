@@ -1,22 +1,86 @@
 -- The counts of paths in an array, one step of a loop after the other. Assumes nothing.
+use Rattle.std.proofs.lemmas.Bool.Decides.{nat_tests}
 use Prim.Native.Nat.{ℕ, zero, suc, ◌+◌, ◌*◌, ◌-◌, ◌≤◌, ◌<◌}
-use native.Mathlib.Nat.{min-le_left, suc-mul}
+use native.Mathlib.Nat.{min-le_left, suc-mul, mul-le-mul_right}
 use native.Mathlib.Numerals.{add-one}
 use native.Mathlib.Omega.{arith}
-use mathlib.Core.Path.{◌≡◌, refl, ap, sym, ◌∙◌}
+use mathlib.Core.Path.{◌≡◌, ap, sym, ◌∙◌}
 use mathlib.Core.Logic.{◌≢◌}
 use mathlib.Core.Bool.{Bool, true, false, cond}
 use mathlib.Core.List.{List, [], ◌∷◌, ◌++◌, map, append_assoc}
 use lib.Dec.{eqb}
-use lib.ListN.{length, take, drop, get_or, set, length-take, length-append}
+use lib.ListN.{length, take, drop, get_or, set, length-take, length-append, drop_of_length-le}
 use lib.Seq.{drop-cons, drop-drop, get_or-set_same, get_or-set_other}
 use borrow.Author.Tests.{eq-eqb, ne_eqb}
 use Rattle.tables.specs.Arrays.{paths_in}
 use Rattle.network.specs.Events.{Visit, visits_after, visits_of}
 use Rattle.network.specs.Bounds.{Bound, no_earlier}
-use Rattle.limits.specs.Counts.{total, moves_after, moves, Stop, stop, stops, counts, later_carts, orders_from, orders_among, stop_at, stops_in}
+use Rattle.limits.specs.declared.row.Stop.{Stop}
+use Rattle.limits.specs.Counts.{total, moves_after, moves, stop, stops, counts, later_carts, orders_from, orders_among, stop_at, stops_in}
 use Rattle.limits.specs.Row.{Entry, later_bounds, followed, row_from, row_bounds, entry_at, placed, entry_in, row_in}
 use Rattle.limits.proofs.RowBounds.{later_count, row_count, placed_visits}
+
+-- ---- a path
+
+module _ (p : List ℕ) where
+  -- the cell at step t, and those after it
+  cells_cons : (t : ℕ) → t < length p → drop t p ≡ get_or p t 0 ∷ drop (t + 1) p
+  cells_cons t l = drop-cons p t 0 l ∙ ap (λ (n : ℕ). get_or p t 0 ∷ drop n p) (sym (add-one t))
+
+  -- moves from step 1 on
+  pub moves_begin : 1 ≤ length p → moves p ≡ moves_after (get_or p 0 0) (drop 1 p)
+  unfolding moves
+  moves_begin l = ap moves (cells_cons 0 l)
+
+  -- a wait
+  pub moves_stay : (c t : ℕ) → t < length p → c ≡ get_or p t 0 → moves_after c (drop t p) ≡ moves_after (get_or p t 0) (drop (t + 1) p)
+  unfolding moves_after
+  moves_stay c t l e =
+      let rest : ℕ = moves_after (get_or p t 0) (drop (t + 1) p) in
+      ap (moves_after c) (cells_cons t l) ∙ ap (λ (b : Bool). cond b rest (suc rest)) (eq-eqb c (get_or p t 0) e)
+
+  -- a move
+  pub moves_go : (c t : ℕ) → t < length p → (c ≡ get_or p t 0 → ⊥) → moves_after c (drop t p) ≡ suc (moves_after (get_or p t 0) (drop (t + 1) p))
+  unfolding moves_after
+  moves_go c t l e =
+      let rest : ℕ = moves_after (get_or p t 0) (drop (t + 1) p) in
+      ap (moves_after c) (cells_cons t l) ∙ ap (λ (b : Bool). cond b rest (suc rest)) (ne_eqb c (get_or p t 0) e)
+
+  -- none after the last step
+  pub moves_end : (c t : ℕ) → length p ≤ t → moves_after c (drop t p) ≡ 0
+  unfolding moves_after
+  moves_end c t l = ap (moves_after c) (drop_of_length-le p {i = t} l)
+
+  -- visits from step 1 on
+  pub visits_begin : 1 ≤ length p → visits_of p ≡ record { step = 0; cell = get_or p 0 0 } ∷ visits_after (get_or p 0 0) 1 (drop 1 p)
+  unfolding visits_of
+  visits_begin l = ap visits_of (cells_cons 0 l)
+
+  -- a wait is no visit
+  pub visits_stay : (c t : ℕ) → t < length p → c ≡ get_or p t 0 → visits_after c t (drop t p) ≡ visits_after (get_or p t 0) (t + 1) (drop (t + 1) p)
+  unfolding visits_after
+  visits_stay c t l e =
+      let d : ℕ = get_or p t 0 in
+      let rest : List Visit = visits_after d (suc t) (drop (t + 1) p) in
+      ap (visits_after c t) (cells_cons t l)
+      ∙ ap (λ (b : Bool). cond b rest (record { step = t; cell = d } ∷ rest)) (eq-eqb c d e)
+      ∙ ap (λ (n : ℕ). visits_after d n (drop (t + 1) p)) (sym (add-one t))
+
+  -- a move is one
+  pub visits_go : (c t : ℕ) → t < length p → (c ≡ get_or p t 0 → ⊥)
+      → visits_after c t (drop t p) ≡ record { step = t; cell = get_or p t 0 } ∷ visits_after (get_or p t 0) (t + 1) (drop (t + 1) p)
+  unfolding visits_after
+  visits_go c t l e =
+      let d : ℕ = get_or p t 0 in
+      let rest : List Visit = visits_after d (suc t) (drop (t + 1) p) in
+      ap (visits_after c t) (cells_cons t l)
+      ∙ ap (λ (b : Bool). cond b rest (record { step = t; cell = d } ∷ rest)) (ne_eqb c d e)
+      ∙ ap (λ (n : ℕ). record { step = t; cell = d } ∷ visits_after d n (drop (t + 1) p)) (sym (add-one t))
+
+  -- none after the last step
+  pub visits_end : (c t : ℕ) → length p ≤ t → visits_after c t (drop t p) ≡ []
+  unfolding visits_after
+  visits_end c t l = ap (visits_after c t) (drop_of_length-le p {i = t} l)
 
 -- ---- a path in an array
 
@@ -162,11 +226,37 @@ all_moves_none n i w r l = ap (total moves) (paths_none n i w r l)
 pub from_first : (n w : ℕ) (s : List ℕ) → paths_in (n - 0) w (drop 0 s) ≡ paths_in n w s
 from_first n w s = let all : n - 0 ≡ n = omega arith in ap (λ (m : ℕ). paths_in m w s) all
 
+-- ---- paths by their places
+
+-- where the path behind the i-th begins
+row_end : (i w : ℕ) → i * w + w ≡ (i + 1) * w
+row_end i w = omega (arith, suc-mul i w, ap (λ (k : ℕ). k * w) (add-one i))
+
+-- it is there
+pub row_fits : (n i w : ℕ) → i < n → i * w + w ≤ n * w
+row_fits n i w l = omega (arith, row_end i w, mul-le-mul_right w l, ap (λ (k : ℕ). k * w) (add-one i))
+
+-- the i-th path, and those after it
+pub paths_next : (n i w : ℕ) (s : List ℕ) → i < n
+    → paths_in (n - i) w (drop (i * w) s) ≡ take w (drop (i * w) s) ∷ paths_in (n - (i + 1)) w (drop ((i + 1) * w) s)
+paths_next n i w s l =
+    paths_cons n i w (i * w) s l ∙ ap (λ (k : ℕ). take w (drop (i * w) s) ∷ paths_in (n - (i + 1)) w (drop k s)) (row_end i w)
+
+-- from the first on
+pub paths_begin : (n w : ℕ) (s : List ℕ) → paths_in (n - 0) w (drop (0 * w) s) ≡ paths_in n w s
+paths_begin n w s = let none : 0 * w ≡ 0 = omega arith in ap (λ (k : ℕ). paths_in (n - 0) w (drop k s)) none ∙ from_first n w s
+
+-- the moves of the i-th, and of those after it
+pub moves_next : (n i w : ℕ) (s : List ℕ) → i < n
+    → total moves (paths_in (n - i) w (drop (i * w) s)) ≡ moves (take w (drop (i * w) s)) + total moves (paths_in (n - (i + 1)) w (drop ((i + 1) * w) s))
+unfolding total
+moves_next n i w s l = ap (total moves) (paths_next n i w s l)
+
 -- ---- visits in arrays
 
 module _ (ns ts cs : List ℕ) where
   -- what is put behind n visits comes after them
-  stops_behind : (n : ℕ) → n < length ns → n < length ts → n < length cs → (a t c k i : ℕ) → i + k ≡ n
+  pub stops_behind : (n : ℕ) → n < length ns → n < length ts → n < length cs → (a t c k i : ℕ) → i + k ≡ n
       → stops_in (set ns n a) (set ts n t) (set cs n c) (suc k) i ≡ stops_in ns ts cs k i ++ (record { cart = a; step = t; cell = c } ∷ [])
   unfolding stops_in stop_at
   stops_behind n la lt lc a t c zero i e =
@@ -185,43 +275,18 @@ module _ (ns ts cs : List ℕ) where
       more : List Stop
       more = stops_in (set ns n a) (set ts n t) (set cs n c) (suc k) (suc i)
 
-  -- one visit of a cart is put there, others are to come
-  pub put_one : (n : ℕ) → n < length ns → n < length ts → n < length cs → (a t c : ℕ) (vs : List Visit)
-      → stops_in (set ns n a) (set ts n t) (set cs n c) (n + 1) 0 ++ map (stop a) vs ≡ stops_in ns ts cs n 0 ++ map (stop a) (record { step = t; cell = c } ∷ vs)
-  unfolding stop
-  put_one n la lt lc a t c vs =
-      ap (λ (m : ℕ). stops_in (set ns n a) (set ts n t) (set cs n c) m 0 ++ map (stop a) vs) (add-one n)
-      ∙ ap (λ (r : List Stop). r ++ map (stop a) vs) (stops_behind n la lt lc a t c n 0 (omega arith))
-      ∙ append_assoc (stops_in ns ts cs n 0) (record { cart = a; step = t; cell = c } ∷ []) (map (stop a) vs)
+-- one visit of a cart is put, others are to come
+pub put_next : (r r' : List Stop) (j : ℕ) (x : Visit) (vs : List Visit) → r' ≡ r ++ (stop j x ∷ []) → r' ++ map (stop j) vs ≡ r ++ map (stop j) (x ∷ vs)
+put_next r r' j x vs e = ap (λ (q : List Stop). q ++ map (stop j) vs) e ∙ append_assoc r (stop j x ∷ []) (map (stop j) vs)
 
-  -- the arrays then
-  pub put_next : (n : ℕ) → n < length ns → n < length ts → n < length cs → (a t c : ℕ) (vs : List Visit) (ns' ts' cs' : List ℕ) (m : ℕ)
-      → ns' ≡ set ns n a → ts' ≡ set ts n t → cs' ≡ set cs n c → m ≡ n + 1
-      → stops_in ns' ts' cs' m 0 ++ map (stop a) vs ≡ stops_in ns ts cs n 0 ++ map (stop a) (record { step = t; cell = c } ∷ vs)
-  put_next n la lt lc a t c vs ns' ts' cs' m en et ec em =
-      ap (λ (x : List ℕ). stops_in x ts' cs' m 0 ++ map (stop a) vs) en
-      ∙ ap (λ (x : List ℕ). stops_in (set ns n a) x cs' m 0 ++ map (stop a) vs) et
-      ∙ ap (λ (x : List ℕ). stops_in (set ns n a) (set ts n t) x m 0 ++ map (stop a) vs) ec
-      ∙ ap (λ (x : ℕ). stops_in (set ns n a) (set ts n t) (set cs n c) x 0 ++ map (stop a) vs) em
-      ∙ put_one n la lt lc a t c vs
-
--- the arrays are as they were
-pub put_none : (ns ts cs ns' ts' cs' : List ℕ) (n m : ℕ) (r : List Stop) → ns' ≡ ns → ts' ≡ ts → cs' ≡ cs → m ≡ n
-    → stops_in ns' ts' cs' m 0 ++ r ≡ stops_in ns ts cs n 0 ++ r
-put_none ns ts cs ns' ts' cs' n m r en et ec em =
-    ap (λ (x : List ℕ). stops_in x ts' cs' m 0 ++ r) en
-    ∙ ap (λ (x : List ℕ). stops_in ns x cs' m 0 ++ r) et
-    ∙ ap (λ (x : List ℕ). stops_in ns ts x m 0 ++ r) ec
-    ∙ ap (λ (x : ℕ). stops_in ns ts cs x 0 ++ r) em
-
--- the visits of the path at hand, and of those after it
-pub stops_path : (n i w at : ℕ) (s : List ℕ) → i < n
-    → stops (i + 1) (paths_in (n - i) w (drop at s))
-    ≡ map (stop (i + 1)) (visits_of (take w (drop at s))) ++ stops (i + 1 + 1) (paths_in (n - (i + 1)) w (drop (at + w) s))
+-- the visits of the i-th path, and of those after it
+pub stops_next : (n i w : ℕ) (s : List ℕ) → i < n
+    → stops (i + 1) (paths_in (n - i) w (drop (i * w) s))
+    ≡ map (stop (i + 1)) (visits_of (take w (drop (i * w) s))) ++ stops (i + 1 + 1) (paths_in (n - (i + 1)) w (drop ((i + 1) * w) s))
 unfolding stops
-stops_path n i w at s l =
-    ap (stops (i + 1)) (paths_cons n i w at s l)
-    ∙ ap (λ (j : ℕ). map (stop (i + 1)) (visits_of (take w (drop at s))) ++ stops j (paths_in (n - (i + 1)) w (drop (at + w) s))) (sym (add-one (i + 1)))
+stops_next n i w s l =
+    ap (stops (i + 1)) (paths_next n i w s l)
+    ∙ ap (λ (j : ℕ). map (stop (i + 1)) (visits_of (take w (drop (i * w) s))) ++ stops j (paths_in (n - (i + 1)) w (drop ((i + 1) * w) s))) (sym (add-one (i + 1)))
 
 -- no visits after the last path
 pub stops_done : (n i w j : ℕ) (r : List ℕ) → n ≤ i → stops j (paths_in (n - i) w r) ≡ []
@@ -234,10 +299,7 @@ module _ (ns ts cs : List ℕ) where
   -- the visit at hand, and those after it
   stops_cons : (n i : ℕ) → i < n → stops_in ns ts cs (n - i) i ≡ stop_at ns ts cs i ∷ stops_in ns ts cs (n - (i + 1)) (i + 1)
   unfolding stops_in
-  stops_cons n i l =
-      let one : n - i ≡ suc (n - (i + 1)) = omega arith in
-      ap (λ (m : ℕ). stops_in ns ts cs m i) one
-      ∙ ap (λ (j : ℕ). stop_at ns ts cs i ∷ stops_in ns ts cs (n - (i + 1)) j) (sym (add-one i))
+  stops_cons n i l = grind (arith, nat_tests)
 
   -- with its entry event
   row_cons : (n i : ℕ) → i < n → row_in ns ts cs (n - i) i ≡ entry_in ns ts cs i ∷ row_in ns ts cs (n - (i + 1)) (i + 1)
@@ -310,12 +372,7 @@ module _ (ns ts cs : List ℕ) where
   -- the last visit of all has none
   pub row_none : (all : List Entry) (n i : ℕ) → n ≤ i + 1 → row_from all (row_in ns ts cs (n - i) i) ≡ []
   unfolding row_from followed row_in placed stops_in
-  row_none all n i l = by (n - i) (omega arith)
-    where
-      by : (m : ℕ) → m ≤ 1 → row_from all (row_in ns ts cs m i) ≡ []
-      by zero h = refl
-      by (suc zero) h = refl
-      by (suc (suc m)) h = absurd (omega arith)
+  row_none all n i l = grind (arith, nat_tests)
 
   -- counted: a visit with one of the same cart behind it
   pub counted_more : (all : List Entry) (n i : ℕ) → i + 1 < n → get_or ns i 0 ≡ get_or ns (i + 1) 0

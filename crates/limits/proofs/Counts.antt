@@ -1,13 +1,15 @@
 -- How many events and bounds there are goes by the paths alone, and is what `specs.Counts` counts. Assumes nothing.
+use Rattle.std.specs.Prelude.{Some}
 use Prim.Native.Nat.{ℕ, suc, ◌+◌, ◌*◌}
 use native.Mathlib.Omega.{arith}
 use mathlib.Core.Path.{◌≡◌, refl, ap, sym, ◌∙◌}
 use mathlib.Core.Bool.{Bool, true, false, ◌&&◌, cond}
 use mathlib.Core.List.{List, [], ◌∷◌, ◌++◌, flat_map}
-use mathlib.Core.Option.{some}
 use lib.Dec.{leb, eqb}
 use lib.ListN.{length, length-append, length-map}
-use Rattle.floor.specs.Plan.{Road, Cart, Plan}
+use Rattle.floor.specs.Plan.{Plan}
+use Rattle.floor.specs.declared.Road.{Road}
+use Rattle.floor.specs.declared.Cart.{Cart}
 use Rattle.network.specs.Events.{Visit, visits_after, visits_of, points, Route, routes, routes_of, route_points, event_count, last_event, finish_event}
 use Rattle.network.specs.Bounds.{Bound, no_earlier, Part, route_parts, part_bounds, start_bounds, travel_bounds, order_bounds, finish_bounds, bounds}
 use Rattle.limits.specs.Limits.{of_paths, limits_kept}
@@ -105,7 +107,7 @@ travels_count roads (c ∷ cs) (p ∷ ps) j e h =
 -- one start bound for each route
 pub start_count : (rs : List Route) → length (start_bounds rs) ≡ length rs
 unfolding start_bounds
-start_count rs = length-map rs (λ (r : Route). record { from = 0; to = r.first; lo = 0; hi = some 0 })
+start_count rs = length-map rs (λ (r : Route). record { from = 0; to = r.first; lo = 0; hi = Some 0 })
 
 -- and one finish bound
 finish_count : (f : ℕ) (rs : List Route) → length (finish_bounds f rs) ≡ length rs

@@ -1,4 +1,5 @@
 -- At most one order bound goes from a visit to each other cart, so that many moves and carts are needed for many order bounds. Assumes nothing.
+use Rattle.std.proofs.lemmas.Bool.Decides.{nat_tests}
 use Prim.Native.Nat.{ℕ, suc, ◌+◌, ◌*◌, ◌-◌, ◌≤◌, ◌<◌}
 use native.Mathlib.Nat.{zero-add, suc-mul, mul_comm, add-mul}
 use native.Mathlib.Omega.{arith}
@@ -12,7 +13,8 @@ use borrow.Author.Tests.{eqb-true, eqb-false, eq-eqb, le-leb}
 use Rattle.tables.proofs.PathRecords.{paths_in_length}
 use Rattle.tables.specs.Arrays.{paths_in}
 use Rattle.network.specs.Events.{Visit, visits_after, visits_of}
-use Rattle.limits.specs.Counts.{total, moves_after, moves, Stop, stop, stops, counts, later_carts, not_last, orders_from, orders_among}
+use Rattle.limits.specs.declared.row.Stop.{Stop}
+use Rattle.limits.specs.Counts.{total, moves_after, moves, stop, stops, counts, later_carts, not_last, orders_from, orders_among}
 use Rattle.limits.proofs.RowBounds.{goes_no_further}
 use Rattle.limits.proofs.Counts.{visits_after_moves}
 
@@ -27,13 +29,7 @@ own_cart v u k h =
 -- nor one of the cart counted last
 pub counted_cart : (v u : Stop) (k : ℕ) → k ≡ u.cart → counts v k u ≡ false
 unfolding counts
-counted_cart v u k h =
-    ap (λ (b : Bool). not (eqb v.cart u.cart) && not b && (ltb v.step u.step && eqb v.cell u.cell)) (eq-eqb k u.cart h)
-    ∙ by (not (eqb v.cart u.cart))
-  where
-    by : (b : Bool) → (b && false && (ltb v.step u.step && eqb v.cell u.cell)) ≡ false
-    by true = refl
-    by false = refl
+counted_cart v u k h = grind (arith, nat_tests)
 
 -- a visit that is not counted is passed over
 pub passed_over : (v u : Stop) (k : ℕ) (us : List Stop) → counts v k u ≡ false → later_carts v k (u ∷ us) ≡ later_carts v k us

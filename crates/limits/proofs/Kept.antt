@@ -1,8 +1,10 @@
 -- The last limits of a plan that was read, as the code finds them from its paths in an array. Assumes nothing.
+use Rattle.std.proofs.lemmas.Bool.Decides.{nat_tests}
+use Rattle.std.specs.Prelude.{Err, Ok}
 use Prim.Native.Nat.{ℕ, ◌*◌, ◌≤◌}
 use native.Mathlib.Omega.{arith}
-use mathlib.Core.Path.{◌≡◌, refl, ap, sym, ◌∙◌, subst}
-use mathlib.Core.Bool.{Bool, true, false, true≢false, ◌&&◌}
+use mathlib.Core.Path.{◌≡◌, ap, sym, ◌∙◌, subst}
+use mathlib.Core.Bool.{Bool, true, false, ◌&&◌}
 use mathlib.Core.List.{List}
 use lib.Dec.{leb}
 use lib.ListN.{length}
@@ -11,41 +13,29 @@ use Rattle.words.specs.Words.{padded}
 use Rattle.words.proofs.Padding.{padded_length}
 use Rattle.floor.specs.declared.Reason.TheVariants.{Limit}
 use Rattle.floor.specs.declared.Table.TheVariants.{Paths}
-use Rattle.floor.specs.Refusal.{refused, accepted, ◌>>=◌, ◌>>◌, need}
+use Rattle.floor.specs.Refusal.{◌>>=◌, need}
 use Rattle.floor.specs.Plan.{Plan}
 use Rattle.floor.specs.Paths.{steps}
 use Rattle.floor.specs.Tables.{Tables, read_tables}
 use Rattle.tables.specs.Arrays.{path_cells, paths_in}
 use Rattle.floor.proofs.Accepted.{Sound, accepted_sound, Even, accepted_even}
 use Rattle.tables.proofs.PathTurns.{even_held, even_cells}
-use Rattle.network.specs.Events.{event_count}
-use Rattle.network.specs.Bounds.{bounds}
 use Rattle.network.specs.Judge.{within_limits}
 use Rattle.limits.specs.Limits.{of_paths, limits_kept, paths_within}
 use Rattle.limits.proofs.Counts.{limits_by_paths}
 
 -- a plan that keeps the limits is accepted
-pub within_kept : (p : Plan) → limits_kept p ≡ true → within_limits p ≡ accepted p
+pub within_kept : (p : Plan) → limits_kept p ≡ true → within_limits p ≡ Ok p
 unfolding limits_kept within_limits need ◌>>=◌
-within_kept p e = by (leb (event_count p) 4096) (leb (length (bounds p)) 8192) e
-  where
-    by : (a b : Bool) → (a && b) ≡ true → (need a Limit Paths 0 >> (need b Limit Paths 0 >> accepted p)) ≡ accepted p
-    by true true e = refl
-    by true false e = absurd (true≢false (sym e))
-    by false b e = absurd (true≢false (sym e))
+within_kept p e = grind (arith, nat_tests)
 
 -- one that does not is refused, for events and bounds alike
-pub within_over : (p : Plan) → limits_kept p ≡ false → within_limits p ≡ refused (record { reason = Limit; table = Paths; row = 0 })
+pub within_over : (p : Plan) → limits_kept p ≡ false → within_limits p ≡ Err (record { reason = Limit; table = Paths; row = 0 })
 unfolding limits_kept within_limits need ◌>>=◌
-within_over p e = by (leb (event_count p) 4096) (leb (length (bounds p)) 8192) e
-  where
-    by : (a b : Bool) → (a && b) ≡ false → (need a Limit Paths 0 >> (need b Limit Paths 0 >> accepted p)) ≡ refused (record { reason = Limit; table = Paths; row = 0 })
-    by true true e = absurd (true≢false e)
-    by true false e = refl
-    by false b e = refl
+within_over p e = grind (arith, nat_tests)
 
 -- what is found of a plan's paths in an array is so of the plan
-pub paths_within_is : (ts : Tables) (p : Plan) → read_tables ts ≡ accepted p → (size : ℕ) → 8192 ≤ size
+pub paths_within_is : (ts : Tables) (p : Plan) → read_tables ts ≡ Ok p → (size : ℕ) → 8192 ≤ size
     → paths_within (length p.carts) (steps p.paths) (padded size (path_cells p.paths)) ≡ limits_kept p
 unfolding paths_within
 paths_within_is ts p e size h =

@@ -1,15 +1,15 @@
 -- The limits over paths in an array, one test after the other. Assumes nothing.
-use Prim.Native.Nat.{ℕ, zero, suc, ◌+◌, ◌*◌, ◌-◌, ◌≤◌, ◌<◌}
-use native.Mathlib.Nat.{mul-zero, suc-mul, lt_of_not-le, not-le_of_lt}
+use Rattle.std.proofs.lemmas.Bool.Decides.{nat_tests}
+use Prim.Native.Nat.{ℕ, zero, suc, ◌+◌, ◌*◌, ◌-◌, ◌≤◌}
+use native.Mathlib.Nat.{mul-zero, suc-mul}
 use native.Mathlib.Omega.{arith}
 use mathlib.Core.Path.{◌≡◌, refl, ap, sym, ◌∙◌, subst}
-use mathlib.Core.Bool.{Bool, true, false, not, ◌&&◌}
+use mathlib.Core.Bool.{Bool, true, false, ◌&&◌}
 use mathlib.Core.List.{List, [], ◌∷◌}
-use lib.Dec.{T, leb, leb→le}
-use mir.Facts.{and_yes}
+use lib.Dec.{leb}
 use lib.ListN.{length, take, drop, length-drop}
 use lib.Seq.{length-take-le}
-use borrow.Author.Tests.{not-true, not-false, leb-true, leb-false, le-leb, lt-leb}
+use borrow.Author.Tests.{leb-true, le-leb}
 use Rattle.tables.proofs.PathRecords.{paths_in_length}
 use Rattle.tables.specs.Arrays.{paths_in}
 use Rattle.network.specs.Events.{visits_of, points}
@@ -59,34 +59,13 @@ empty_orders n s = ap orders_among (empty_stops n 1 s)
 
 -- ---- the tests
 
--- few enough carts and steps, and all cells there
-pub there_says : (n w : ℕ) (s : List ℕ) (b : Bool) → b ≡ (leb n 64 && leb w 1024 && leb (n * w) (length s)) → not b ≡ false
-    → (n ≤ 64) × (w ≤ 1024) × (n * w ≤ length s)
-there_says n w s b q e =
-    let (more, cells) = and_yes (leb n 64 && leb w 1024) (leb (n * w) (length s)) (subst T (sym (not-false b e) ∙ q) tt) in
-    let (carts, steps) = and_yes (leb n 64) (leb w 1024) more in
-    (leb→le n 64 carts, leb→le w 1024 steps, leb→le (n * w) (length s) cells)
-
 module _ (n w : ℕ) (s : List ℕ) where
-  -- too many carts or steps, or not all cells there
-  pub not_there : (b : Bool) → b ≡ (leb n 64 && leb w 1024 && leb (n * w) (length s)) → not b ≡ true → false ≡ paths_within n w s
-  unfolding paths_within
-  not_there b q e = ap (λ (t : Bool). t && limits_kept (of_paths (paths_in n w s))) (sym (not-true b e) ∙ q)
-
-  -- else the limits of events and bounds are asked
+  -- few enough carts and steps, and all cells there: the limits of events and bounds are asked
   all_there : n ≤ 64 → w ≤ 1024 → n * w ≤ length s → limits_kept (of_paths (paths_in n w s)) ≡ paths_within n w s
   unfolding paths_within
   all_there h k l = simp (le-leb n 64 h, le-leb w 1024 k, le-leb (n * w) (length s) l)
 
-  -- too many events
-  many_found : n ≤ 64 → w ≤ 1024 → n * w ≤ length s → 4096 < 2 + total path_points (paths_in n w s) → false ≡ paths_within n w s
-  many_found h k l over =
-      let ps : List (List ℕ) = paths_in n w s in
-      ap (λ (b : Bool). b && leb (2 * length ps + 3 * total moves ps + orders_among (stops 1 ps)) 8192) (sym (lt-leb (2 + total path_points ps) 4096 over))
-      ∙ sym (limits_are ps)
-      ∙ all_there h k l
-
-  -- else the bounds are counted
+  -- no more events than may be: the bounds are counted
   bounds_found : n ≤ 64 → w ≤ 1024 → n * w ≤ length s → 2 + total path_points (paths_in n w s) ≤ 4096
       → leb (2 * n + 3 * total moves (paths_in n w s) + orders_among (stops 1 (paths_in n w s))) 8192 ≡ paths_within n w s
   bounds_found h k l under =
@@ -95,10 +74,6 @@ module _ (n w : ℕ) (s : List ℕ) where
       ∙ ap (λ (b : Bool). b && leb (2 * length ps + 3 * total moves ps + orders_among (stops 1 ps)) 8192) (sym (le-leb (2 + total path_points ps) 4096 under))
       ∙ sym (limits_are ps)
       ∙ all_there h k l
-
-  -- too many events, by the moves counted
-  pub many_events : n ≤ 64 → w ≤ 1024 → n * w ≤ length s → 1 ≤ w → (m : ℕ) → m ≡ total moves (paths_in n w s) → 4096 < 2 + n + 3 * m → false ≡ paths_within n w s
-  many_events h k l o m e over = many_found h k l (omega (arith, all_events n w s o l))
 
   -- the bounds, by the moves and the order bounds counted
   bounds_counted : n ≤ 64 → w ≤ 1024 → n * w ≤ length s → 1 ≤ w → (m b : ℕ) → m ≡ total moves (paths_in n w s)
@@ -117,18 +92,20 @@ no_cells n s h =
     ∙ bounds_found n 0 s h (omega arith) (omega arith) (omega (arith, empty_points n s))
 
 -- where there are no steps
-pub no_steps : (n w : ℕ) (s : List ℕ) → n ≤ 64 → w ≡ 0 → true ≡ paths_within n w s
-no_steps n w s h e = subst (λ (x : ℕ). true ≡ paths_within n x s) (sym e) (no_cells n s h)
+pub no_steps : (n w : ℕ) (s : List ℕ) → w ≡ 0 → leb n 64 ≡ paths_within n w s
+unfolding paths_within
+no_steps n w s e = by (leb n 64) refl
+  where
+    by : (b : Bool) → leb n 64 ≡ b → b ≡ (b && leb w 1024 && leb (n * w) (length s) && limits_kept (of_paths (paths_in n w s)))
+    by true q = subst (λ (x : ℕ). true ≡ (true && leb x 1024 && leb (n * x) (length s) && limits_kept (of_paths (paths_in n x s)))) (sym e)
+        (subst (λ (b : Bool). true ≡ (b && leb 0 1024 && leb (n * 0) (length s) && limits_kept (of_paths (paths_in n 0 s)))) q (no_cells n s (leb-true n 64 q)))
+    by false q = refl
 
 -- ---- the order bounds
 
 -- two tests with one outcome
 same_test : (a b c d : ℕ) → (a ≤ b → c ≤ d) → (c ≤ d → a ≤ b) → leb a b ≡ leb c d
-same_test a b c d f g = by (leb a b) refl
-  where
-    by : (t : Bool) → leb a b ≡ t → t ≡ leb c d
-    by true e = sym (le-leb c d (f (leb-true a b e)))
-    by false e = sym (lt-leb c d (lt_of_not-le (λ h. not-le_of_lt (leb-false a b e) (g h))))
+same_test a b c d f g = grind (arith, nat_tests)
 
 -- those of the paths
 abbrev pub path_orders : ℕ → ℕ → List ℕ → ℕ

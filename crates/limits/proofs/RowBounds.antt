@@ -1,30 +1,32 @@
 -- The order bounds of a plan are those along the row of the visits of all its carts, and as many as are counted there. Assumes nothing.
+use Rattle.std.specs.Prelude.{Option, None, Some}
 use Prim.Native.Nat.{ℕ, zero, suc, ◌+◌, ◌*◌, ◌-◌, ◌<◌}
 use native.Mathlib.Omega.{arith}
 use mathlib.Core.Path.{◌≡◌, refl, ap, ap₂, sym, ◌∙◌}
 use mathlib.Core.Logic.{◌⊎◌, inl, inr, ⊎_elim}
 use mathlib.Core.Bool.{Bool, true, false, not, ◌&&◌, cond}
 use mathlib.Core.List.{List, [], ◌∷◌, ◌++◌, map, flat_map, append_assoc}
-use mathlib.Core.Option.{Option, none, some}
 use lib.Dec.{ltb, eqb}
 use lib.ListN.{length, get_or, length-append, length-map}
 use borrow.Author.Tests.{eq-eqb, ne_eqb}
 use Rattle.laws.proofs.Rising.{Rises, Rising, rises_first}
-use Rattle.floor.specs.Plan.{Cart, Plan}
+use Rattle.floor.specs.Plan.{Plan}
+use Rattle.floor.specs.declared.Cart.{Cart}
 use Rattle.network.specs.Events.{Visit, visits_of, approach, leave, point, same_kind, find_point, points_after, points, Route, routes, routes_of, route_points, event_of}
 use Rattle.network.specs.Bounds.{Bound, no_earlier, first_later, between, order_bound, order_bounds_to, order_bounds}
 use Rattle.network.proofs.Sorts.{FirstLater, first_later_is}
 use Rattle.network.proofs.Visits.{step_of, visits_rise}
 use Rattle.network.proofs.VisitPoints.{leave_of, approach_of}
 use Rattle.limits.specs.Limits.{of_paths}
-use Rattle.limits.specs.Counts.{Stop, stop, stops, counts, later_carts, not_last, orders_from, orders_among}
+use Rattle.limits.specs.declared.row.Stop.{Stop}
+use Rattle.limits.specs.Counts.{stop, stops, counts, later_carts, not_last, orders_from, orders_among}
 use Rattle.limits.specs.Row.{Entry, entered, later_bounds, followed, row_from, row_bounds, placed}
 
 -- ---- which visits have a leave point: all but a cart's last
 
 -- the leave points of a route are those of visits before its last
 no_leave_after : (x : Visit) (ys : List Visit) (e i : ℕ) (d : Visit) → Rises step_of x ys → suc i ≡ length (x ∷ ys)
-    → find_point leave (get_or (x ∷ ys) i d).step e (points_after x ys) ≡ none
+    → find_point leave (get_or (x ∷ ys) i d).step e (points_after x ys) ≡ None
 unfolding find_point points_after same_kind point
 no_leave_after x [] e i d h l = refl
 no_leave_after x (y ∷ ys) e zero d h l = absurd (omega arith)
@@ -32,15 +34,15 @@ no_leave_after x (y ∷ ys) e (suc i) d h l =
     let t : ℕ = (get_or (y ∷ ys) i d).step in
     let above : x.step < t = rises_first step_of x (y ∷ ys) i d h (omega arith) in
     let other : eqb t x.step ≡ false = ne_eqb t x.step (λ q. omega arith) in
-    ap (λ (b : Bool). cond b (some e) (find_point leave t (suc (suc (suc e))) (points_after y ys))) other
+    ap (λ (b : Bool). cond b (Some e) (find_point leave t (suc (suc (suc e))) (points_after y ys))) other
     ∙ no_leave_after y ys (suc (suc (suc e))) i d h.1 (omega arith)
 
 -- so of a route
-no_leave : (r : Route) → Rising step_of r.visits → (i : ℕ) (d : Visit) → suc i ≡ length r.visits → event_of leave r (get_or r.visits i d) ≡ none
+no_leave : (r : Route) → Rising step_of r.visits → (i : ℕ) (d : Visit) → suc i ≡ length r.visits → event_of leave r (get_or r.visits i d) ≡ None
 unfolding event_of route_points find_point points same_kind points_after point
 no_leave r h i d l = by r.visits h l
   where
-    by : (vs : List Visit) → Rising step_of vs → suc i ≡ length vs → find_point leave (get_or vs i d).step r.first (points vs) ≡ none
+    by : (vs : List Visit) → Rising step_of vs → suc i ≡ length vs → find_point leave (get_or vs i d).step r.first (points vs) ≡ None
     by [] h l = refl
     by (x ∷ xs) h l = no_leave_after x xs (suc r.first) i d h l
 
@@ -106,15 +108,15 @@ pass_counted v n e (x ∷ xs) rest =
 
 -- the entry event of the first visit that is later than x and to its cell
 first_entry : Visit → ℕ → List Visit → Option ℕ
-first_entry x e [] = none
-first_entry x e (y ∷ ys) = cond (ltb x.step y.step && eqb x.cell y.cell) (some e) (first_entry x (e + 3) ys)
+first_entry x e [] = None
+first_entry x e (y ∷ ys) = cond (ltb x.step y.step && eqb x.cell y.cell) (Some e) (first_entry x (e + 3) ys)
 
 -- those of another cart give one bound, if one is later and to v's cell
 pass_other : (a u : ℕ) (x : Visit) (k n e : ℕ) (vs : List Visit) (rest : List Entry) → eqb a n ≡ false → eqb k n ≡ false
     → later_bounds (record { visit = stop a x; event = u }) k (cart_row n e vs ++ rest)
     ≡ elim (first_entry x e vs) [
-      | none ↦ later_bounds (record { visit = stop a x; event = u }) k rest
-      | some f ↦ no_earlier (u + 1) (f - 1) ∷ later_bounds (record { visit = stop a x; event = u }) n rest
+      | None ↦ later_bounds (record { visit = stop a x; event = u }) k rest
+      | Some f ↦ no_earlier (u + 1) (f - 1) ∷ later_bounds (record { visit = stop a x; event = u }) n rest
     ]
 unfolding later_bounds counts stop first_entry
 pass_other a u x k n e [] rest h i = refl
@@ -135,9 +137,9 @@ pass_other a u x k n e (y ∷ ys) rest h i =
     t : Bool
     t = ltb x.step y.step && eqb x.cell y.cell
 
-    by : (b : Bool) → later_bounds v k more ≡ elim (first_entry x (e + 3) ys) [ none ↦ later_bounds v k rest | some f ↦ no_earlier (u + 1) (f - 1) ∷ later_bounds v n rest ]
+    by : (b : Bool) → later_bounds v k more ≡ elim (first_entry x (e + 3) ys) [ None ↦ later_bounds v k rest | Some f ↦ no_earlier (u + 1) (f - 1) ∷ later_bounds v n rest ]
         → cond b (here ∷ later_bounds v n more) (later_bounds v k more)
-        ≡ elim (cond b (some e) (first_entry x (e + 3) ys)) [ none ↦ later_bounds v k rest | some f ↦ no_earlier (u + 1) (f - 1) ∷ later_bounds v n rest ]
+        ≡ elim (cond b (Some e) (first_entry x (e + 3) ys)) [ None ↦ later_bounds v k rest | Some f ↦ no_earlier (u + 1) (f - 1) ∷ later_bounds v n rest ]
     by true q = ap (λ (r : List Bound). here ∷ r) (pass_counted v n (e + 3) ys rest)
     by false q = q
 
@@ -145,21 +147,21 @@ pass_other a u x k n e (y ∷ ys) rest h i =
 
 -- where the first later visit stands, and its entry event
 first_entry_is : (x : Visit) (vs : List Visit) (e : ℕ) (d : Visit)
-    → ((first_later x vs ≡ none) × (first_entry x e vs ≡ none))
-    ⊎ ((i : ℕ) × (i < length vs) × (first_later x vs ≡ some (get_or vs i d)) × (first_entry x e vs ≡ some (e + 3 * i)))
+    → ((first_later x vs ≡ None) × (first_entry x e vs ≡ None))
+    ⊎ ((i : ℕ) × (i < length vs) × (first_later x vs ≡ Some (get_or vs i d)) × (first_entry x e vs ≡ Some (e + 3 * i)))
 unfolding first_later first_entry
 first_entry_is x [] e d = inl (refl, refl)
 first_entry_is x (y ∷ ys) e d = by (ltb x.step y.step && eqb x.cell y.cell) (first_entry_is x ys (e + 3) d)
   where
     by : (b : Bool)
-        → ((first_later x ys ≡ none) × (first_entry x (e + 3) ys ≡ none))
-        ⊎ ((i : ℕ) × (i < length ys) × (first_later x ys ≡ some (get_or ys i d)) × (first_entry x (e + 3) ys ≡ some (e + 3 + 3 * i)))
-        → ((cond b (some y) (first_later x ys) ≡ none) × (cond b (some e) (first_entry x (e + 3) ys) ≡ none))
-        ⊎ ((i : ℕ) × (i < length (y ∷ ys)) × (cond b (some y) (first_later x ys) ≡ some (get_or (y ∷ ys) i d))
-        × (cond b (some e) (first_entry x (e + 3) ys) ≡ some (e + 3 * i)))
-    by true h = let same : e ≡ e + 3 * 0 = omega arith in inr (0, omega arith, refl, ap some same)
+        → ((first_later x ys ≡ None) × (first_entry x (e + 3) ys ≡ None))
+        ⊎ ((i : ℕ) × (i < length ys) × (first_later x ys ≡ Some (get_or ys i d)) × (first_entry x (e + 3) ys ≡ Some (e + 3 + 3 * i)))
+        → ((cond b (Some y) (first_later x ys) ≡ None) × (cond b (Some e) (first_entry x (e + 3) ys) ≡ None))
+        ⊎ ((i : ℕ) × (i < length (y ∷ ys)) × (cond b (Some y) (first_later x ys) ≡ Some (get_or (y ∷ ys) i d))
+        × (cond b (Some e) (first_entry x (e + 3) ys) ≡ Some (e + 3 * i)))
+    by true h = let same : e ≡ e + 3 * 0 = omega arith in inr (0, omega arith, refl, ap Some same)
     by false (inl h) = inl h
-    by false (inr (i, l, a, b)) = let next : e + 3 + 3 * i ≡ e + 3 * suc i = omega arith in inr (suc i, omega (arith, l), a, b ∙ ap some next)
+    by false (inr (i, l, a, b)) = let next : e + 3 + 3 * i ≡ e + 3 * suc i = omega arith in inr (suc i, omega (arith, l), a, b ∙ ap Some next)
 
 -- the first visit begins at step 0
 first_step : (q : List ℕ) (d : Visit) → 0 < length (visits_of q) → (get_or (visits_of q) 0 d).step ≡ 0
@@ -168,9 +170,9 @@ first_step [] d l = absurd (omega arith)
 first_step (c ∷ cs) d l = refl
 
 -- from a leave point to the approach point of the first later visit of a path's route, which is the event before its entry
-bound_found : (j : Route) (x : Visit) (u n : ℕ) (c : Cart) (q : List ℕ) (e : ℕ) → event_of leave j x ≡ some u
+bound_found : (j : Route) (x : Visit) (u n : ℕ) (c : Cart) (q : List ℕ) (e : ℕ) → event_of leave j x ≡ Some u
     → order_bound j x (record { number = n; cart = c; visits = visits_of q; first = e }) (first_later x (visits_of q))
-    ≡ elim (first_entry x e (visits_of q)) [ none ↦ [] | some f ↦ no_earlier u (f - 1) ∷ [] ]
+    ≡ elim (first_entry x e (visits_of q)) [ None ↦ [] | Some f ↦ no_earlier u (f - 1) ∷ [] ]
 unfolding order_bound between
 bound_found j x u n c q e h = ⊎_elim nothing found (first_entry_is x (visits_of q) e no_visit)
   where
@@ -181,28 +183,28 @@ bound_found j x u n c q e h = ⊎_elim nothing found (first_entry_is x (visits_o
     k = record { number = n; cart = c; visits = visits_of q; first = e }
 
     bound : Option ℕ → List Bound
-    bound o = elim o [ none ↦ [] | some f ↦ no_earlier u (f - 1) ∷ [] ]
+    bound o = elim o [ None ↦ [] | Some f ↦ no_earlier u (f - 1) ∷ [] ]
 
-    nothing : (first_later x (visits_of q) ≡ none) × (first_entry x e (visits_of q) ≡ none) → order_bound j x k (first_later x (visits_of q)) ≡ bound (first_entry x e (visits_of q))
+    nothing : (first_later x (visits_of q) ≡ None) × (first_entry x e (visits_of q) ≡ None) → order_bound j x k (first_later x (visits_of q)) ≡ bound (first_entry x e (visits_of q))
     nothing (a, b) = ap (order_bound j x k) a ∙ ap bound (sym b)
 
-    at : (i : ℕ) → i < length (visits_of q) → first_later x (visits_of q) ≡ some (get_or (visits_of q) i no_visit)
-        → event_of approach k (get_or (visits_of q) i no_visit) ≡ some (e + 3 * i - 1)
+    at : (i : ℕ) → i < length (visits_of q) → first_later x (visits_of q) ≡ Some (get_or (visits_of q) i no_visit)
+        → event_of approach k (get_or (visits_of q) i no_visit) ≡ Some (e + 3 * i - 1)
     at zero l a =
         let f : FirstLater x (visits_of q) (get_or (visits_of q) 0 no_visit) = first_later_is x (visits_of q) (get_or (visits_of q) 0 no_visit) a in
         absurd (omega (arith, f.later, first_step q no_visit l))
-    at (suc i) l a = let same : e + (3 * i + 2) ≡ e + 3 * suc i - 1 = omega arith in approach_of k (visits_rise q) i no_visit l ∙ ap some same
+    at (suc i) l a = let same : e + (3 * i + 2) ≡ e + 3 * suc i - 1 = omega arith in approach_of k (visits_rise q) i no_visit l ∙ ap Some same
 
-    found : (i : ℕ) × (i < length (visits_of q)) × (first_later x (visits_of q) ≡ some (get_or (visits_of q) i no_visit)) × (first_entry x e (visits_of q) ≡ some (e + 3 * i))
+    found : (i : ℕ) × (i < length (visits_of q)) × (first_later x (visits_of q) ≡ Some (get_or (visits_of q) i no_visit)) × (first_entry x e (visits_of q) ≡ Some (e + 3 * i))
         → order_bound j x k (first_later x (visits_of q)) ≡ bound (first_entry x e (visits_of q))
     found (i, l, a, b) =
         ap (order_bound j x k) a
         ∙ ap (λ (o : Option ℕ). between o (event_of approach k (get_or (visits_of q) i no_visit))) h
-        ∙ ap (between (some u)) (at i l a)
+        ∙ ap (between (Some u)) (at i l a)
         ∙ ap bound (sym b)
 
 -- to all carts from number n on, where one before them was counted last
-others_row : (cs : List Cart) (ps : List (List ℕ)) (n e : ℕ) (j : Route) (x : Visit) (u k : ℕ) → length cs ≡ length ps → k < n → event_of leave j x ≡ some (u + 1)
+others_row : (cs : List Cart) (ps : List (List ℕ)) (n e : ℕ) (j : Route) (x : Visit) (u k : ℕ) → length cs ≡ length ps → k < n → event_of leave j x ≡ Some (u + 1)
     → flat_map (order_bounds_to j x) (routes n e cs ps) ≡ later_bounds (record { visit = stop j.number x; event = u }) k (entered e (stops n ps))
 unfolding flat_map routes stops entered later_bounds order_bounds_to stop
 others_row [] [] n e j x u k h l q = refl
@@ -225,10 +227,10 @@ others_row (c ∷ cs) (p ∷ ps) n e j x u k h l q =
     others = flat_map (order_bounds_to j x) (routes (suc n) f cs ps)
 
     at : (o : Option ℕ) → ((m : ℕ) → m < suc n → others ≡ later_bounds v m after)
-        → elim o [ none ↦ [] | some g ↦ no_earlier (u + 1) (g - 1) ∷ [] ] ++ others
-        ≡ elim o [ none ↦ later_bounds v k after | some g ↦ no_earlier (u + 1) (g - 1) ∷ later_bounds v n after ]
-    at none rest = rest k (omega arith)
-    at (some g) rest = ap (λ (r : List Bound). no_earlier (u + 1) (g - 1) ∷ r) (rest n (omega arith))
+        → elim o [ None ↦ [] | Some g ↦ no_earlier (u + 1) (g - 1) ∷ [] ] ++ others
+        ≡ elim o [ None ↦ later_bounds v k after | Some g ↦ no_earlier (u + 1) (g - 1) ∷ later_bounds v n after ]
+    at None rest = rest k (omega arith)
+    at (Some g) rest = ap (λ (r : List Bound). no_earlier (u + 1) (g - 1) ∷ r) (rest n (omega arith))
 
     by : (b : Bool) → eqb j.number n ≡ b → ((m : ℕ) → m < suc n → others ≡ later_bounds v m after)
         → cond b [] (order_bound j x (record { number = n; cart = c; visits = visits_of p; first = e }) (first_later x (visits_of p))) ++ others
@@ -240,14 +242,14 @@ others_row (c ∷ cs) (p ∷ ps) n e j x u k h l q =
         ∙ sym (pass_other j.number u x k n e (visits_of p) after s (ne_eqb k n (λ r. omega arith)))
 
 -- a visit without a leave point has none
-no_bounds : (j : Route) (x : Visit) (rs : List Route) → event_of leave j x ≡ none → flat_map (order_bounds_to j x) rs ≡ []
+no_bounds : (j : Route) (x : Visit) (rs : List Route) → event_of leave j x ≡ None → flat_map (order_bounds_to j x) rs ≡ []
 unfolding flat_map order_bounds_to order_bound between
 no_bounds j x [] e = refl
 no_bounds j x (k ∷ ks) e = by (eqb j.number k.number) (no_bounds j x ks e)
   where
     at : (o : Option Visit) → flat_map (order_bounds_to j x) ks ≡ [] → order_bound j x k o ++ flat_map (order_bounds_to j x) ks ≡ []
-    at none h = h
-    at (some y) h = ap (λ (o : Option ℕ). between o (event_of approach k y) ++ flat_map (order_bounds_to j x) ks) e ∙ h
+    at None h = h
+    at (Some y) h = ap (λ (o : Option ℕ). between o (event_of approach k y) ++ flat_map (order_bounds_to j x) ks) e ∙ h
 
     by : (b : Bool) → flat_map (order_bounds_to j x) ks ≡ [] → cond b [] (order_bound j x k (first_later x k.visits)) ++ flat_map (order_bounds_to j x) ks ≡ []
     by true h = h
@@ -286,7 +288,7 @@ followed_is v a e (u ∷ us) = refl
 
 -- the visits of carts from number n on
 carts_row : (rs : List Route) (all : List Entry)
-    → ((j : Route) (x : Visit) (u : ℕ) → event_of leave j x ≡ some (u + 1) → flat_map (order_bounds_to j x) rs ≡ later_bounds (record { visit = stop j.number x; event = u }) 0 all)
+    → ((j : Route) (x : Visit) (u : ℕ) → event_of leave j x ≡ Some (u + 1) → flat_map (order_bounds_to j x) rs ≡ later_bounds (record { visit = stop j.number x; event = u }) 0 all)
     → (cs : List Cart) (ps : List (List ℕ)) (n e : ℕ) → length cs ≡ length ps
     → flat_map (λ (j : Route). flat_map (λ (x : Visit). flat_map (order_bounds_to j x) rs) j.visits) (routes n e cs ps) ≡ row_from all (entered e (stops n ps))
 unfolding flat_map routes stops entered row_from stop
@@ -315,7 +317,7 @@ carts_row rs all h (c ∷ cs) (p ∷ ps) n e l =
         → g (get_or (visits_of p) i no_visit) ≡ later_bounds (record { visit = stop n (get_or (visits_of p) i no_visit); event = e + 3 * i }) 0 all
     goes i l =
         let same : e + (3 * i + 1) ≡ e + 3 * i + 1 = omega arith in
-        h j (get_or (visits_of p) i no_visit) (e + 3 * i) (leave_of j (visits_rise p) i no_visit l ∙ ap some same)
+        h j (get_or (visits_of p) i no_visit) (e + 3 * i) (leave_of j (visits_rise p) i no_visit l ∙ ap Some same)
 
     ends : (i : ℕ) → suc i ≡ length (visits_of p) → g (get_or (visits_of p) i no_visit) ≡ []
     ends i l = no_bounds j (get_or (visits_of p) i no_visit) rs (no_leave j (visits_rise p) i no_visit l)
@@ -331,7 +333,7 @@ row_bounds_are p h =
 -- a plan of paths has as many carts
 pub of_paths_carts : (ps : List (List ℕ)) → length (of_paths ps).carts ≡ length (of_paths ps).paths
 unfolding of_paths
-of_paths_carts ps = length-map ps (λ (x : List ℕ). record { fastest = 0; slowest = none })
+of_paths_carts ps = length-map ps (λ (x : List ℕ). record { fastest = 0; slowest = None })
 
 -- the order bounds of a plan of paths
 pub of_paths_row : (ps : List (List ℕ)) → order_bounds (routes_of (of_paths ps)) ≡ row_bounds (entered 1 (stops 1 ps))

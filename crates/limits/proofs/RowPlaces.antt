@@ -12,7 +12,8 @@ use Rattle.network.specs.Events.{Visit, visits_after, visits_of, points, routes_
 use Rattle.network.specs.Bounds.{order_bounds}
 use Rattle.network.proofs.VisitPoints.{points_after_length}
 use Rattle.limits.specs.Limits.{of_paths}
-use Rattle.limits.specs.Counts.{Stop, stop, stops, stop_at, stops_in}
+use Rattle.limits.specs.declared.row.Stop.{Stop}
+use Rattle.limits.specs.Counts.{stop, stops, stop_at, stops_in}
 use Rattle.limits.specs.Row.{Entry, entered, row_bounds, entry_at, placed, row_in}
 use Rattle.limits.proofs.RowBounds.{cart_row, entered_path, of_paths_row}
 

@@ -1,4 +1,5 @@
 -- Visits of a cart passed over together: where its visits are not counted, the next that is looked at is one of another cart. Assumes nothing.
+use Rattle.std.proofs.lemmas.Bool.Decides.{nat_tests}
 use Prim.Native.Nat.{ℕ, zero, suc, ◌+◌, ◌*◌, ◌-◌, ◌%◌, ◌≤◌, ◌<◌}
 use native.Mathlib.Nat.{eq-or-lt_of_le}
 use native.Mathlib.Numerals.{add-one}
@@ -12,8 +13,8 @@ use mir.Facts.{and_yes, or_yes}
 use lib.ListN.{length, get_or, set}
 use lib.Seq.{get_or-set_same, get_or-set_other}
 use Rattle.network.specs.Bounds.{Bound, no_earlier}
-use Rattle.limits.specs.Counts.{Stop, counts, stop_at, stops_in, left_in, Linked, same_cart, skip_of, Skipped, Grouped, next_after}
-use Rattle.limits.specs.Row.{Entry, later_bounds, entry_at, placed, row_in}
+use Rattle.limits.specs.Counts.{counts, stop_at, stops_in, left_in, Linked, same_cart, skip_of, Skipped, Grouped, next_after}
+use Rattle.limits.specs.Row.{Entry, later_bounds, placed, row_in}
 use Rattle.limits.proofs.Few.{own_cart, counted_cart}
 use Rattle.limits.proofs.CountSteps.{later_yes, later_no}
 use Rattle.limits.proofs.Links.{left_most, left_there, left_skip}
@@ -22,7 +23,7 @@ use Rattle.limits.proofs.Links.{left_most, left_there, left_skip}
 
 -- the next visit is before those linked already
 pub next_low : (cells heads nexts : List ℕ) (n : ℕ) → Linked cells heads nexts n n → (l : ℕ) → l < n → get_or nexts (n - suc l) 0 ≤ l
-next_low cells heads nexts n k l h = omega (arith, k.nexts_are l h, left_most cells (get_or cells (n - suc l) 0 % 1024) l (n - l))
+next_low cells heads nexts n k l h = omega (arith, k.nexts_are l h, left_most (λ i m. false) cells (get_or cells (n - suc l) 0 % 1024) l (n - l))
 
 module _ (numbers times cells heads nexts skips : List ℕ) (n : ℕ) (g : Grouped numbers cells heads nexts skips n) where
   -- the bounds to the last l visits
@@ -32,11 +33,7 @@ module _ (numbers times cells heads nexts skips : List ℕ) (n : ℕ) (g : Group
   -- a visit that is not counted is passed over
   last_passed : (v : Entry) (k l : ℕ) → l < n → counts v.visit k (stop_at numbers times cells (n - suc l)) ≡ false → last v k (suc l) ≡ last v k l
   unfolding later_bounds row_in placed stops_in
-  last_passed v k l h e =
-      let u : Stop = stop_at numbers times cells (n - suc l) in
-      let next : suc (n - suc l) ≡ n - l = omega arith in
-      ap (λ (i : ℕ). later_bounds v k (record { visit = u; event = entry_at (n - suc l) u } ∷ row_in numbers times cells l i)) next
-      ∙ ap (λ (b : Bool). cond b (no_earlier (v.event + 1) (entry_at (n - suc l) u - 1) ∷ last v u.cart l) (last v k l)) e
+  last_passed v k l h e = grind (arith, nat_tests)
 
   -- what is known of m visits left where l were
   abbrev Goes : Entry → ℕ → ℕ → ℕ → Type 0
@@ -48,7 +45,7 @@ module _ (numbers times cells heads nexts skips : List ℕ) (n : ℕ) (g : Group
       let b : ℕ = v.visit.cell % 1024 in
       let next : get_or nexts (n - suc l) 0 ≡ left_in cells b l (n - l) = g.linked.nexts_are l h ∙ ap (λ (x : ℕ). left_in cells x l (n - l)) same in
       subst (Goes v k l) (sym next)
-      (left_most cells b l (n - l), left_there cells b n l (n - l) (omega arith), left_skip numbers times cells v k b n l (n - l) refl (omega arith))
+      (left_most _ cells b l (n - l), left_there cells b n l (n - l) (omega arith), left_skip numbers times cells v k b n l (n - l) refl (omega arith))
 
   -- from the next of another cart on, where visits are off, which are not counted, and after such a one those of its cart are too
   module _ (v : Entry) (k : ℕ) (Off : ℕ → Type 0) (quiet : (u : ℕ) → Off u → counts v.visit k (stop_at numbers times cells u) ≡ false)
@@ -91,10 +88,7 @@ module _ (numbers times cells heads nexts skips : List ℕ) (n : ℕ) (g : Group
   -- nor the next, where that is its too
   next_uncounted : (v : Entry) (k u : ℕ) → Uncounted v k u → T (same_cart numbers n u (get_or nexts u 0)) → Uncounted v k (n - get_or nexts u 0)
   unfolding same_cart
-  next_uncounted v k u un t =
-      let m : ℕ = get_or nexts u 0 in
-      let (_, cart) = and_yes (ltb 0 m) (eqb (get_or numbers u 0) (get_or numbers (n - m) 0)) t in
-      subst (λ (i : ℕ). (v.visit.cart ≡ i) ⊎ (k ≡ i)) (eqb→eq (get_or numbers u 0) (get_or numbers (n - m) 0) cart) un
+  next_uncounted v k u un t = grind (arith, nat_tests)
 
   -- from the visit that is looked at next on
   after_goes : (v : Entry) (k l : ℕ) → l < n → get_or cells (n - suc l) 0 % 1024 ≡ v.visit.cell % 1024
@@ -208,12 +202,11 @@ module _ (carts nexts : List ℕ) (n : ℕ) (low : (l : ℕ) → l < n → get_o
           get_or-set_other skips (n - suc left) (n - suc l) x 0 other ∙ c.skips_are l (omega arith) ∙ skip_kept skips left x h l (omega arith)
 
   -- the same, as the code counts
-  pub one_skipped : (skips : List ℕ) (left : ℕ) → Skipped carts nexts skips n left → left < n → n ≤ length skips → (t : Bool) → t ≡ same_cart carts n (n - (left + 1)) (get_or nexts (n - (left + 1)) 0)
-      → Skipped carts nexts (set skips (n - (left + 1)) (cond t (get_or skips (n - get_or nexts (n - (left + 1)) 0) 0) (get_or nexts (n - (left + 1)) 0))) n (left + 1)
+  pub one_skipped : (skips : List ℕ) (left : ℕ) → Skipped carts nexts skips n left → left < n → n ≤ length skips → (m : ℕ) → m ≡ get_or nexts (n - (left + 1)) 0
+      → (t : Bool) → t ≡ same_cart carts n (n - (left + 1)) m → (x : ℕ) → x ≡ cond t (get_or skips (n - m) 0) (get_or nexts (n - (left + 1)) 0)
+      → Skipped carts nexts (set skips (n - (left + 1)) x) n (left + 1)
   unfolding skip_of
-  one_skipped skips left c h room t e =
-      subst
-      (λ (y : ℕ). t ≡ same_cart carts n (n - y) (get_or nexts (n - y) 0) → Skipped carts nexts (set skips (n - y) (cond t (get_or skips (n - get_or nexts (n - y) 0) 0) (get_or nexts (n - y) 0))) n y)
-      (sym (add-one left))
-      (λ q. one_suc skips left (cond t (get_or skips (n - get_or nexts (n - suc left) 0) 0) (get_or nexts (n - suc left) 0)) c h room
-      (ap (λ (b : Bool). cond b (get_or skips (n - get_or nexts (n - suc left) 0) 0) (get_or nexts (n - suc left) 0)) q)) e
+  one_skipped skips left c h room m e t q x z =
+      let u : ℕ = n - (left + 1) in
+      subst (λ (y : ℕ). x ≡ skip_of carts nexts skips n (n - y) → Skipped carts nexts (set skips (n - y) x) n y) (sym (add-one left)) (one_suc skips left x c h room)
+      (z ∙ ap (λ (b : Bool). cond b (get_or skips (n - m) 0) (get_or nexts u 0)) q ∙ ap (λ (k : ℕ). cond (same_cart carts n u k) (get_or skips (n - k) 0) (get_or nexts u 0)) e)

@@ -2,6 +2,7 @@
 -- Assumes nothing.
 use Rattle.std.specs.Prelude.{ℕ, zero, suc, ◌+◌, ◌-◌, ◌%◌, ◌≤◌, ◌<◌, ◌≡◌, Bool, false, not, ◌&&◌, ◌||◌, cond, List, [], ◌∷◌, ◌++◌, map, leb, ltb, eqb, get_or}
 use Rattle.network.specs.Events.{Visit, visits_of}
+use Rattle.limits.specs.declared.row.Stop.{Stop}
 
 -- the sum over a list
 unfoldable pub total : {A : Type 0} → (A → ℕ) → List A → ℕ
@@ -17,12 +18,6 @@ moves_after c (d ∷ ds) = cond (eqb c d) (moves_after d ds) (suc (moves_after d
 unfoldable pub moves : List ℕ → ℕ
 moves [] = 0
 moves (c ∷ cs) = moves_after c cs
-
--- a visit among those of all carts: with the number of its cart
-pub record Stop : Type 0 where
-  pub cart : ℕ
-  pub step : ℕ
-  pub cell : ℕ
 
 -- a visit of this cart
 unfoldable pub stop : ℕ → Visit → Stop
@@ -69,15 +64,23 @@ stops_in carts steps cells (suc n) i = stop_at carts steps cells i ∷ stops_in 
 
 -- ---- visits linked by their cells' remainders
 
--- of l visits, from the i-th on: how many are left from the first on whose cell has remainder b
-unfoldable pub left_in : List ℕ → ℕ → ℕ → ℕ → ℕ
-left_in cells b zero i = 0
-left_in cells b (suc l) i = cond (eqb (get_or cells i 0 % 1024) b) (suc l) (left_in cells b l (suc i))
+-- of l visits, from the i-th on: how many are left from the first on whose cell has remainder b, without those left out by what is left from the next on
+unfoldable pub left_by : (ℕ → ℕ → Bool) → List ℕ → ℕ → ℕ → ℕ → ℕ
+left_by out cells b zero i = 0
+left_by out cells b (suc l) i =
+    let next : ℕ = left_by out cells b l (suc i) in cond (eqb (get_or cells i 0 % 1024) b) (cond (out i next) next (suc l)) next
+
+-- where none is left out
+abbrev pub left_in : List ℕ → ℕ → ℕ → ℕ → ℕ
+left_in = left_by (λ i m. false)
 
 -- of the last visits of n: each remainder's first, and to each visit the next of its remainder, by how many visits are left from there on
-pub record Linked (cells heads nexts : List ℕ) (n left : ℕ) : Type 0 where
-  pub heads_are : (b : ℕ) → b < 1024 → get_or heads b 0 ≡ left_in cells b left (n - left)
-  pub nexts_are : (l : ℕ) → l < left → get_or nexts (n - suc l) 0 ≡ left_in cells (get_or cells (n - suc l) 0 % 1024) l (n - l)
+pub record LinkedBy (out : ℕ → ℕ → Bool) (cells heads nexts : List ℕ) (n left : ℕ) : Type 0 where
+  pub heads_are : (b : ℕ) → b < 1024 → get_or heads b 0 ≡ left_by out cells b left (n - left)
+  pub nexts_are : (l : ℕ) → l < left → get_or nexts (n - suc l) 0 ≡ left_by out cells (get_or cells (n - suc l) 0 % 1024) l (n - l)
+
+abbrev pub Linked : List ℕ → List ℕ → List ℕ → ℕ → ℕ → Type 0
+Linked = LinkedBy (λ i m. false)
 
 -- ---- visits of a cart passed over together
 
@@ -125,5 +128,5 @@ pub record Chained (carts steps cells heads nexts : List ℕ) (n left : ℕ) : T
 
 -- Names every definition of this module, for a proof that computes with them all.
 unfoldable pub open_counts : Unit {0}
-unfolding total moves_after moves stop stops counts later_carts not_last orders_from orders_among stop_at stops_in left_in same_cart skip_of next_after stands_for left_out
+unfolding total moves_after moves stop stops counts later_carts not_last orders_from orders_among stop_at stops_in left_by same_cart skip_of next_after stands_for left_out
 open_counts = tt

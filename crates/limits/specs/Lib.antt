@@ -2,3 +2,4 @@ pub mod Limits
 pub mod Counts
 pub mod Orders
 pub mod Row
+pub mod OfPaths

@@ -1,7 +1,6 @@
 -- The last limits over paths in an array: what the code that counts events and bounds answers, on all input.
 -- Assumes nothing.
-use Rattle.std.specs.Prelude.{ℕ, ◌*◌, Bool, ◌&&◌, List, [], map, leb, length}
-use Rattle.std.proofs.Math.Option.{none}
+use Rattle.std.specs.Prelude.{ℕ, ◌*◌, Bool, ◌&&◌, List, [], map, leb, length, None}
 use Rattle.floor.specs.Plan.{Plan}
 use Rattle.tables.specs.Arrays.{paths_in}
 use Rattle.network.specs.Events.{event_count}
@@ -9,7 +8,7 @@ use Rattle.network.specs.Bounds.{bounds}
 
 -- a plan of these paths: how many events and bounds there are goes by the paths alone
 unfoldable pub of_paths : List (List ℕ) → Plan
-of_paths ps = record { roads = []; carts = map (λ (p : List ℕ). record { fastest = 0; slowest = none }) ps; paths = ps }
+of_paths ps = record { roads = []; carts = map (λ (p : List ℕ). record { fastest = 0; slowest = None }) ps; paths = ps }
 
 -- "4,096 events, 8,192 bounds"
 unfoldable pub limits_kept : Plan → Bool

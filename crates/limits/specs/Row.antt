@@ -3,7 +3,10 @@
 -- Assumes nothing.
 use Rattle.std.specs.Prelude.{ℕ, suc, ◌+◌, ◌*◌, ◌-◌, Bool, false, cond, List, [], ◌∷◌, ◌++◌, eqb}
 use Rattle.network.specs.Bounds.{Bound, no_earlier}
-use Rattle.limits.specs.Counts.{Stop, counts, not_last, stop_at, stops_in}
+use Rattle.limits.specs.declared.row.Stop.{Stop}
+use Rattle.limits.specs.declared.row.Row.{Row}
+use Rattle.limits.specs.declared.row.RowArrays.{RowArrays}
+use Rattle.limits.specs.Counts.{counts, not_last, stop_at, stops_in}
 
 -- a visit with the number of its entry event
 pub record Entry : Type 0 where
@@ -37,6 +40,13 @@ row_bounds all = row_from all all
 
 -- ---- visits in arrays
 
+-- those put in arrays, and those of a row
+abbrev pub visits_put : RowArrays → List Stop
+visits_put r = stops_in r.numbers.now r.times.now r.places.now r.n 0
+
+abbrev pub visits_in : Row → List Stop
+visits_in r = stops_in r.numbers.now r.times.now r.places.now r.n 0
+
 -- the entry event of the i-th visit of the row, where no cart is without one: three events on for each visit before it, two less for each cart before its own
 unfoldable pub entry_at : ℕ → Stop → ℕ
 entry_at i v = 3 * i + 3 - 2 * v.cart
@@ -45,6 +55,10 @@ entry_at i v = 3 * i + 3 - 2 * v.cart
 unfoldable pub placed : ℕ → List Stop → List Entry
 placed i [] = []
 placed i (v ∷ us) = record { visit = v; event = entry_at i v } ∷ placed (suc i) us
+
+-- the i-th visit with its number
+abbrev pub numbered : ℕ → Stop → Entry
+numbered i v = record { visit = v; event = entry_at i v }
 
 -- the v-th visit in three arrays
 unfoldable pub entry_in : List ℕ → List ℕ → List ℕ → ℕ → Entry
@@ -57,6 +71,13 @@ row_in carts steps cells n i = placed i (stops_in carts steps cells n i)
 -- the bounds from the v-th of n visits
 abbrev pub bounds_from : List ℕ → List ℕ → List ℕ → ℕ → ℕ → List Bound
 bounds_from carts steps cells n v = later_bounds (entry_in carts steps cells v) 0 (row_in carts steps cells n 0)
+
+-- those from the v-th visit of a row, and all among its visits
+abbrev pub visit_bounds : Row → ℕ → List Bound
+visit_bounds r v = bounds_from r.numbers.now r.times.now r.places.now r.n v
+
+abbrev pub bounds_among : Row → List Bound
+bounds_among r = row_bounds (row_in r.numbers.now r.times.now r.places.now r.n 0)
 
 -- Names every definition of this module, for a proof that computes with them all.
 unfoldable pub open_row : Unit {0}

@@ -1,97 +1,82 @@
 // The limits of events and bounds, counted from paths in an array. The definitions of events and bounds are those of network.
+// A number is narrowed by `as` where it fits: a `try_from` would have an error that cannot come.
 #![tactic(auto)]
 
 mod count;
+mod filling;
+mod grid;
 mod orders;
+mod row;
 
-ghost use Rattle.std.specs.Prelude.{◌≡◌, cond, length};
-ghost use mathlib.Core.List.{flat_map};
-ghost use Rattle.std.proofs.lemmas.List.Edits.{sets};
+ghost use Rattle.std.specs.Prelude.{◌≡◌, ◌<◌, length};
 ghost use Rattle.words.specs.Words.{written};
-ghost use Rattle.tables.specs.Arrays.{paths_in};
-ghost use Rattle.network.specs.BoundArrays.{bound_ends, bound_range};
-ghost use Rattle.limits.specs.Limits.{paths_within};
-ghost use Rattle.limits.specs.Counts.{total, moves};
-ghost use Rattle.limits.specs.Orders.{events_kept, events_fit, firsts_fitting, orders_fitting};
+ghost use Rattle.network.specs.BoundArrays.{Puts};
+ghost use Rattle.limits.specs.Orders.{first_events, events_fit, firsts_fitting};
+ghost use Rattle.limits.specs.OfPaths.{plan_of, keep_limits, bounds_kept};
 
-// Whether paths keep the limits of events and bounds: `carts` of them, of `steps` cells each, one after the other.
-pub fn within_limits(cells: &[u32], carts: usize, steps: usize) -> bool
-    ensures { result ≡ paths_within carts steps cells.now }
+use crate::grid::Kept;
+use collisions::Paths;
+use network::BoundArrays;
+
+// Whether paths keep the limits of events and bounds.
+pub fn within_limits(paths: Paths) -> bool
+    ensures { result ≡ keep_limits paths.entry }
 {
-    if !count::all_there(cells, carts, steps) {
-        return false;
+    if paths.steps == 0 {
+        return paths.carts <= 64;
     }
-    if steps == 0 {
-        return true;
-    }
-    let moves = count::all_moves(cells, carts, steps);
-    if 4096 < 2 + carts + 3 * moves {
-        return false;
-    }
-    count::few_orders(cells, carts, steps, moves, 8192 - 2 * carts - 3 * moves)
+    Kept::of(paths).is_some_and(|kept| count::few_orders(
+        &kept,
+        8192 - 2 * paths.carts - 3 * kept.moves,
+    ))
 }
 
-// The moves of such paths, where there are such, with a step, and they keep the limit of events; else 4,096, more than any that do.
-fn kept_moves(cells: &[u32], carts: usize, steps: usize) -> usize
-    ensures { result ≡ cond (events_kept carts steps cells.now) (total moves (paths_in carts steps cells.now)) 4096 }
+// Writes the numbers of the carts' first events, and the finish's behind them.
+fn put_firsts(kept: &Kept, firsts: &mut [u16])
+    requires { kept.now.grid.paths.carts < length firsts.old }
+    ensures { firsts.new ≡ written (first_events (plan_of kept.now.grid.paths)) firsts.old }
 {
-    if !count::all_there(cells, carts, steps) {
-        return 4096;
+    let carts = kept.grid.paths.carts;
+    let mut e: usize = 1;
+    for i in 0..carts {
+        firsts[i] = e as u16;
+        e += 3 * kept.grid.moves_of(i) + 1;
     }
-    if steps == 0 {
-        return 4096;
-    }
-    let moves = count::all_moves(cells, carts, steps);
-    if 2 + carts + 3 * moves <= 4096 {
-        return moves;
-    }
-    4096
-}
-
-// Whether there are such paths, with a step, and they keep the limit of events.
-fn keeps_events(cells: &[u32], carts: usize, steps: usize) -> bool
-    ensures { result ≡ events_kept carts steps cells.now }
-{
-    kept_moves(cells, carts, steps) < 4096
+    firsts[carts] = e as u16;
 }
 
 // Writes the numbers of the carts' first events to the front of an array, and the finish's behind them; whether there are such.
-pub fn first_events(cells: &[u32], carts: usize, steps: usize, firsts: &mut [u16]) -> bool
-    ensures answer { result ≡ events_fit carts steps cells.now (length firsts.old) }
-    ensures left { firsts.new ≡ written (firsts_fitting carts steps cells.now (length firsts.old)) firsts.old }
+pub fn first_events(paths: Paths, firsts: &mut [u16]) -> bool
+    ensures answer { result ≡ events_fit paths.entry.carts paths.entry.steps paths.entry.cells.now (length firsts.old) }
+    ensures left { firsts.new ≡ written (firsts_fitting paths.entry.carts paths.entry.steps paths.entry.cells.now (length firsts.old)) firsts.old }
 {
-    if !keeps_events(cells, carts, steps) {
+    if firsts.len() <= paths.carts {
         return false;
     }
-    if firsts.len() <= carts {
-        return false;
+    // not by `map`, as a proof does not learn what a closure writes
+    match Kept::of(paths) {
+        Some(kept) => {
+            put_firsts(&kept, firsts);
+            true
+        }
+        None => false,
     }
-    count::put_firsts(cells, carts, steps, firsts);
-    true
 }
 
-// Writes the order bounds of paths to the front of two arrays, as many as there is room for; returns how many there are, 0 where the limit of
-// events is not kept. A cart alone has none, and few visits need only short arrays.
-pub fn order_bounds(
-    cells: &[u32],
-    carts: usize,
-    steps: usize,
-    ends: &mut [u16],
-    ranges: &mut [u64],
-) -> usize
-    ensures answer { result ≡ length (orders_fitting carts steps cells.now) }
-    ensures left { ends.new ≡ sets ends.old 0 (flat_map bound_ends (orders_fitting carts steps cells.now)) }
-    ensures left_ranges { ranges.new ≡ sets ranges.old 0 (flat_map bound_range (orders_fitting carts steps cells.now)) }
+// Puts the order bounds of paths from the k-th place on; returns how many there are, 0 where the limit of events is not kept. A cart alone has none,
+// and few visits need only short arrays.
+pub fn order_bounds(paths: Paths, out: &mut BoundArrays, k: usize) -> usize
+    ensures answer { result ≡ length (bounds_kept paths.entry) }
+    ensures left { Puts out.old out.new k (bounds_kept paths.entry) }
 {
-    if carts < 2 {
+    if paths.carts < 2 {
         return 0;
     }
-    let moves = kept_moves(cells, carts, steps);
-    if moves == 4096 {
-        return 0;
+    let place = out.place(k);
+    match Kept::of(paths) {
+        Some(kept) if paths.carts + kept.moves <= 128 => orders::put_all::<128>(&kept, out, place)
+            - place,
+        Some(kept) => orders::put_all::<1408>(&kept, out, place) - place,
+        None => 0,
     }
-    if carts + moves <= 128 {
-        return orders::write_few(cells, carts, steps, ends, ranges);
-    }
-    orders::write_orders(cells, carts, steps, ends, ranges)
 }

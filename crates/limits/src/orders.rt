@@ -1,242 +1,128 @@
-// The order bounds of paths, written to two arrays. The visits of all carts stand in a row and are linked, as they are counted.
-ghost use Rattle.std.specs.Prelude.{◌≡◌, ℕ, suc, ◌+◌, ◌*◌, ◌-◌, ◌≤◌, ◌<◌, length, get_or};
-ghost use mathlib.Core.List.{flat_map};
-ghost use Rattle.std.proofs.lemmas.List.Edits.{sets};
-ghost use Rattle.tables.specs.Arrays.{paths_in};
-ghost use Rattle.network.specs.Events.{routes_of};
-ghost use Rattle.network.specs.Bounds.{no_earlier, order_bounds};
-ghost use Rattle.network.specs.BoundArrays.{bound_ends, bound_range};
-ghost use Rattle.limits.specs.Limits.{of_paths};
-ghost use Rattle.limits.specs.Counts.{total, moves, same_cart, Skipped, Grouped, next_after};
-ghost use Rattle.limits.specs.Row.{row_bounds, row_in, bounds_from};
+// The order bounds of paths, put in arrays. The visits of all carts stand in a row and are linked, as they are counted.
+// A number is narrowed by `as` where it fits: a `try_from` would have an error that cannot come.
+ghost use Rattle.std.specs.Prelude.{◌≡◌, ℕ, suc, ◌+◌, ◌*◌, ◌-◌, ◌^◌, ◌≤◌, ◌<◌, length, get_or};
+ghost use Rattle.limits.specs.OfPaths.{bounds_of};
+ghost use Rattle.network.specs.BoundArrays.{Puts};
+ghost use Rattle.limits.specs.Counts.{same_cart, Linked, Skipped, next_after};
+ghost use Rattle.limits.specs.Row.{visit_bounds, bounds_among};
 
-use crate::count;
+use crate::grid::Kept;
+use crate::row::{Links, Row, Visits};
+use crate::{count, filling};
+use network::BoundArrays;
 
 // The entry event of visit u, one of cart j. From a cart's visit to its next are three events, from its last to the next cart's first one.
 fn entry_event(u: usize, j: u8) -> u16
     requires { (u < 1408) × (j ≤ u + 1) }
     ensures { result ≡ 3 * u + 3 - 2 * j }
 {
-    (3 * u + 3 - 2 * (j as usize)) as u16
+    (3 * u + 3 - 2 * usize::from(j)) as u16
 }
 
-// Writes bound number k: [0, none] from one event to another.
-fn put_bound(ends: &mut [u16], ranges: &mut [u64], k: usize, from: u16, to: u16)
-    ensures ends_after { ends.new ≡ sets ends.old (2 * k) (bound_ends (no_earlier from to)) }
-    ensures ranges_after { ranges.new ≡ sets ranges.old (2 * k) (bound_range (no_earlier from to)) }
+// Whether the next visit after u, from which on `left` are left, is of u's cart.
+#[tactic(auto, unfolding(crate::specs::Counts::same_cart))]
+fn is_same_cart(row: &Row, u: usize, left: usize) -> bool
+    requires { (u < row.now.n) × (left ≤ row.now.n) }
+    ensures { result ≡ same_cart row.now.numbers.now row.now.n u left }
 {
-    network::put_bound(ends, ranges, k, from, to, 0, 0);
+    0 < left && row.numbers[u] == row.numbers[row.n - left]
 }
 
-// Whether the next visit after u, from which on `left` of n are left, is of u's cart.
-fn is_same_cart(numbers: &[u8], n: usize, u: usize, left: usize) -> bool
-    requires { (u < n) × (left ≤ n) × (n ≤ length numbers.now) }
-    ensures { result ≡ same_cart numbers.now n u left }
+// Puts to each of the linked visits the next of its remainder that is of another cart.
+fn put_skips(row: &Row, nexts: &[u16], skips: &mut [u16])
+    requires n_in_bounds { (row.now.n ≤ length nexts.now) × (row.now.n ≤ length skips.old) }
+    requires by_index { (l : ℕ) → l < row.now.n → get_or nexts.now (row.now.n - suc l) 0 ≤ l }
+    ensures { Skipped row.now.numbers.now nexts.now skips.new row.now.n row.now.n }
 {
-    if left == 0 {
-        return false;
-    }
-    numbers[u] == numbers[n - left]
-}
-
-// Puts to each of n linked visits the next of its remainder that is of another cart.
-fn put_skips(numbers: &[u8], nexts: &[u16], n: usize, skips: &mut [u16])
-    requires n_in_bounds { (n ≤ length numbers.now) × (n ≤ length nexts.now) × (n ≤ length skips.old) }
-    requires by_index { (l : ℕ) → l < n → get_or nexts.now (n - suc l) 0 ≤ l }
-    ensures { Skipped numbers.now nexts.now skips.new n n }
-{
-    let mut left: usize = 0;
-    while left < n {
-        left += 1;
-        let u = n - left;
-        let next = nexts[u];
-        if is_same_cart(numbers, n, u, next as usize) {
-            skips[u] = skips[n - next as usize];
+    for left in 0..row.n {
+        let u = row.n - (left + 1);
+        let next = usize::from(nexts[u]);
+        skips[u] = if is_same_cart(row, u, next) {
+            skips[row.n - next]
         } else {
-            skips[u] = next;
-        }
+            nexts[u]
+        };
     }
 }
 
 // The next visit to look at after u, one of cart i: none of its cart where that is j or k, which are not counted.
-fn next_after(nexts: &[u16], skips: &[u16], u: usize, i: u8, j: u8, k: u8) -> u16
-    requires { (u < length nexts.now) × (u < length skips.now) }
-    ensures { result ≡ next_after nexts.now skips.now u i j k }
+#[tactic(auto, unfolding(crate::specs::Counts::next_after))]
+fn next_after(links: &Links, u: usize, i: u8, j: u8, k: u8) -> usize
+    requires { u < links.now.row.n }
+    ensures { result ≡ next_after links.now.nexts.now links.now.skips.now u i j k }
 {
-    if (j == i) | (k == i) {
-        return skips[u];
-    }
-    nexts[u]
+    let next = if (j == i) | (k == i) {
+        links.skips[u]
+    } else {
+        links.nexts[u]
+    };
+    usize::from(next)
 }
 
-// Writes the bounds from visit v, the first of them number k; returns the number after them. The visits of its remainder are gone
-// through, without those of a cart that is not counted.
-fn put_later(
-    numbers: &[u8],
-    times: &[u16],
-    places: &[u32],
-    heads: &[u16],
-    nexts: &[u16],
-    skips: &[u16],
-    n: usize,
-    v: usize,
-    k: usize,
-    ends: &mut [u16],
-    ranges: &mut [u64],
-) -> usize
-    requires n_bound { (n ≤ 1408) × (v < n) × ((u : ℕ) → u < n → get_or numbers.now u 0 ≤ u + 1) }
-    requires n_in_bounds { (n ≤ length numbers.now) × (n ≤ length times.now) × (n ≤ length places.now) × (length heads.now ≡ 1024) × (n ≤ length nexts.now) × (n ≤ length skips.now) × Grouped numbers.now places.now heads.now nexts.now skips.now n }
-    requires v_bound { k + length (bounds_from numbers.now times.now places.now n v) ≤ 90112 }
-    ensures value { result ≡ k + length (bounds_from numbers.now times.now places.now n v) }
-    ensures ends_after { (ends.new ≡ sets ends.old (2 * k) (flat_map bound_ends (bounds_from numbers.now times.now places.now n v))) × (ranges.new ≡ sets ranges.old (2 * k) (flat_map bound_range (bounds_from numbers.now times.now places.now n v))) }
+// Puts the bounds from visit v, the first of them number k; returns the number after them. The visits of its remainder are gone through,
+// without those of a cart that is not counted.
+fn put_later(links: &Links, v: usize, out: &mut BoundArrays, k: usize) -> usize
+    requires v_bound { v < links.now.row.n }
+    requires k_bound { k + length (visit_bounds links.now.row v) < 2 ^ 63 }
+    ensures value { result ≡ k + length (visit_bounds links.now.row v) }
+    ensures put { Puts out.old out.new k (visit_bounds links.now.row v) }
 {
-    let j = numbers[v];
-    let t = times[v];
-    let c = places[v];
-    let from = entry_event(v, j) + 1;
+    let row = links.row;
+    let x = row.at(v);
+    let from = entry_event(v, x.cart) + 1;
     let mut last: u8 = 0;
     let mut m = k;
-    let mut left = heads[(c % 1024) as usize] as usize;
+    let mut left = usize::from(links.heads[(x.cell % 1024) as usize]);
+    // a `while`: which visit comes next is said by the one at hand
     while 0 < left {
-        let u = n - left;
-        let i = numbers[u];
-        let to = entry_event(u, i) - 1;
-        if count::is_counted(j, t, c, last, i, times[u], places[u]) {
-            put_bound(ends, ranges, m, from, to);
+        let u = row.n - left;
+        let y = row.at(u);
+        let to = entry_event(u, y.cart) - 1;
+        if count::is_counted(x, last, y) {
+            out.put(m, from, to, 0, None);
             m += 1;
-            last = i;
+            last = y.cart;
         }
-        left = next_after(nexts, skips, u, i, j, last) as usize;
+        left = next_after(links, u, y.cart, x.cart, last);
     }
     m
 }
 
-// Writes the order bounds among n visits; returns how many there are: not more than one from each of 1,408 visits to each of 64 carts.
-fn put_orders(
-    numbers: &[u8],
-    times: &[u16],
-    places: &[u32],
-    heads: &[u16],
-    nexts: &[u16],
-    skips: &[u16],
-    n: usize,
-    ends: &mut [u16],
-    ranges: &mut [u64],
-) -> usize
-    requires n_bound { (n ≤ 1408) × ((u : ℕ) → u < n → get_or numbers.now u 0 ≤ u + 1) }
-    requires n_in_bounds { (n ≤ length numbers.now) × (n ≤ length times.now) × (n ≤ length places.now) × (length heads.now ≡ 1024) × (n ≤ length nexts.now) × (n ≤ length skips.now) × Grouped numbers.now places.now heads.now nexts.now skips.now n }
-    requires n_len_bound { length (row_bounds (row_in numbers.now times.now places.now n 0)) ≤ 90112 }
-    ensures value { result ≡ length (row_bounds (row_in numbers.now times.now places.now n 0)) }
-    ensures ends_after { (ends.new ≡ sets ends.old 0 (flat_map bound_ends (row_bounds (row_in numbers.now times.now places.now n 0)))) × (ranges.new ≡ sets ranges.old 0 (flat_map bound_range (row_bounds (row_in numbers.now times.now places.now n 0)))) }
+// Puts the order bounds among the visits, the first of them number k; returns the number after them: not more than one from each of 1,408 visits to
+// each of 64 carts.
+fn put_orders(links: &Links, out: &mut BoundArrays, k: usize) -> usize
+    requires k_bound { k + length (bounds_among links.now.row) < 2 ^ 63 }
+    ensures value { result ≡ k + length (bounds_among links.now.row) }
+    ensures put { Puts out.old out.new k (bounds_among links.now.row) }
 {
-    let mut k: usize = 0;
-    let mut v: usize = 0;
-    while v + 1 < n {
-        if numbers[v] == numbers[v + 1] {
-            k = put_later(
-                numbers, times, places, heads, nexts, skips, n, v, k, ends, ranges,
-            );
+    let mut m = k;
+    for v in 0..links.row.n.saturating_sub(1) {
+        if links.row.numbers[v] == links.row.numbers[v + 1] {
+            m = put_later(links, v, out, m);
         }
-        v += 1;
     }
-    k
+    m
 }
 
-// Writes the order bounds of all paths; returns how many there are. The visits are put and linked in arrays with room for them.
-fn write_in(
-    cells: &[u32],
-    carts: usize,
-    steps: usize,
-    numbers: &mut [u8],
-    times: &mut [u16],
-    places: &mut [u32],
-    nexts: &mut [u16],
-    skips: &mut [u16],
-    ends: &mut [u16],
-    ranges: &mut [u64],
-) -> usize
-    requires carts_bound { (carts ≤ 64) × (1 ≤ steps) × (steps ≤ 1024) × (carts * steps ≤ length cells.now) }
-    requires cells_bound { carts + total moves (paths_in carts steps cells.now) ≤ 1408 }
-    requires cells_in_bounds { (carts + total moves (paths_in carts steps cells.now) ≤ length numbers.old)
-        × (carts + total moves (paths_in carts steps cells.now) ≤ length times.old)
-        × (carts + total moves (paths_in carts steps cells.now) ≤ length places.old)
-        × (carts + total moves (paths_in carts steps cells.now) ≤ length nexts.old)
-        × (carts + total moves (paths_in carts steps cells.now) ≤ length skips.old) }
-    ensures value { result ≡ length (order_bounds (routes_of (of_paths (paths_in carts steps cells.now)))) }
-    ensures ends_after { ends.new ≡ sets ends.old 0 (flat_map bound_ends (order_bounds (routes_of (of_paths (paths_in carts steps cells.now))))) }
-    ensures ranges_after { ranges.new ≡ sets ranges.old 0 (flat_map bound_range (order_bounds (routes_of (of_paths (paths_in carts steps cells.now))))) }
+// Puts the order bounds of all paths, by arrays of N places: few of them take little time to clear. Returns the number after them.
+pub(crate) fn put_all<const N: usize>(kept: &Kept, out: &mut BoundArrays, k: usize) -> usize
+    requires room { (kept.now.grid.paths.carts + kept.now.moves ≤ N) × (N ≤ 1408) }
+    requires k_bound { k ≤ 2 ^ 62 }
+    ensures value { result ≡ k + length (bounds_of kept.now.grid.paths) }
+    ensures put { Puts out.old out.new k (bounds_of kept.now.grid.paths) }
 {
-    let n = count::put_all(cells, carts, steps, numbers, times, places);
-    let mut heads: [u16; 1024] = [0; 1024];
-    count::link(places, n, &mut heads, nexts);
-    put_skips(numbers, nexts, n, skips);
-    put_orders(
-        numbers, times, places, &heads, nexts, skips, n, ends, ranges,
-    )
-}
-
-// The same in arrays that have room for the visits of any plan.
-pub(crate) fn write_orders(
-    cells: &[u32],
-    carts: usize,
-    steps: usize,
-    ends: &mut [u16],
-    ranges: &mut [u64],
-) -> usize
-    requires carts_bound { (carts ≤ 64) × (1 ≤ steps) × (steps ≤ 1024) × (carts * steps ≤ length cells.now) }
-    requires cells_bound { carts + total moves (paths_in carts steps cells.now) ≤ 1408 }
-    ensures value { result ≡ length (order_bounds (routes_of (of_paths (paths_in carts steps cells.now)))) }
-    ensures ends_after { ends.new ≡ sets ends.old 0 (flat_map bound_ends (order_bounds (routes_of (of_paths (paths_in carts steps cells.now))))) }
-    ensures ranges_after { ranges.new ≡ sets ranges.old 0 (flat_map bound_range (order_bounds (routes_of (of_paths (paths_in carts steps cells.now))))) }
-{
-    let mut numbers: [u8; 1408] = [0; 1408];
-    let mut times: [u16; 1408] = [0; 1408];
-    let mut places: [u32; 1408] = [0; 1408];
-    let mut nexts: [u16; 1408] = [0; 1408];
-    let mut skips: [u16; 1408] = [0; 1408];
-    write_in(
-        cells,
-        carts,
-        steps,
-        &mut numbers,
-        &mut times,
-        &mut places,
-        &mut nexts,
-        &mut skips,
-        ends,
-        ranges,
-    )
-}
-
-// The same for at most 128 visits, in arrays that take little time to clear.
-pub(crate) fn write_few(
-    cells: &[u32],
-    carts: usize,
-    steps: usize,
-    ends: &mut [u16],
-    ranges: &mut [u64],
-) -> usize
-    requires carts_bound { (carts ≤ 64) × (1 ≤ steps) × (steps ≤ 1024) × (carts * steps ≤ length cells.now) }
-    requires cells_bound { carts + total moves (paths_in carts steps cells.now) ≤ 128 }
-    ensures value { result ≡ length (order_bounds (routes_of (of_paths (paths_in carts steps cells.now)))) }
-    ensures ends_after { ends.new ≡ sets ends.old 0 (flat_map bound_ends (order_bounds (routes_of (of_paths (paths_in carts steps cells.now))))) }
-    ensures ranges_after { ranges.new ≡ sets ranges.old 0 (flat_map bound_range (order_bounds (routes_of (of_paths (paths_in carts steps cells.now))))) }
-{
-    let mut numbers: [u8; 128] = [0; 128];
-    let mut times: [u16; 128] = [0; 128];
-    let mut places: [u32; 128] = [0; 128];
-    let mut nexts: [u16; 128] = [0; 128];
-    let mut skips: [u16; 128] = [0; 128];
-    write_in(
-        cells,
-        carts,
-        steps,
-        &mut numbers,
-        &mut times,
-        &mut places,
-        &mut nexts,
-        &mut skips,
-        ends,
-        ranges,
-    )
+    let mut visits = Visits::<N>::new();
+    let row = visits.arrays().fill(kept);
+    let mut heads = [0u16; 1024];
+    let mut nexts = [0u16; N];
+    let mut skips = [0u16; N];
+    filling::link(&row, &mut heads, &mut nexts, |_, _| false);
+    put_skips(&row, &nexts, &mut skips);
+    let links = Links {
+        row,
+        heads: &heads,
+        nexts: &nexts,
+        skips: &skips,
+    };
+    put_orders(&links, out, k)
 }

@@ -1,5 +1,6 @@
 -- Where bounds begin and end: every one goes between events, and every event but the start is entered by one from before it.
 -- Assumes nothing.
+use Rattle.std.specs.Prelude.{Some, Ok}
 use Prim.Native.Nat.{ℕ, zero, suc, ◌+◌, ◌-◌, ◌≤◌, ◌<◌}
 use native.Mathlib.Nat.{eq-or-lt_of_le}
 use native.Mathlib.Omega.{arith}
@@ -7,12 +8,13 @@ use mathlib.Core.Path.{◌≡◌, refl, ap, sym, ◌∙◌, subst}
 use mathlib.Core.Logic.{⊎_elim}
 use mathlib.Core.Bool.{Bool, true, false, ◌&&◌, cond}
 use mathlib.Core.List.{List, [], ◌∷◌, ◌++◌, flat_map, Memᴰ}
-use mathlib.Core.Option.{some, none-ne-some, some-injective}
 use lib.Dec.{T, eqb, eqb→eq}
 use lib.ListN.{length, get_or}
 use mir.Facts.{and_yes}
-use Rattle.floor.specs.Plan.{Road, Cart, Plan}
-use Rattle.floor.specs.Refusal.{accepted}
+use Rattle.laws.proofs.Options.{none-ne-some, some-injective}
+use Rattle.floor.specs.Plan.{Plan}
+use Rattle.floor.specs.declared.Road.{Road}
+use Rattle.floor.specs.declared.Cart.{Cart}
 use Rattle.floor.specs.Tables.{Tables}
 use Rattle.floor.proofs.Accepted.{Sound}
 use Rattle.network.specs.Events.{Visit, visits_of, Kind, approach, entry, leave, Point, points, points_after, Route, routes, routes_of, route_points, event_count, finish_event, places, route_events, last_event, same_kind, find_point, event_of}
@@ -75,7 +77,7 @@ route_first p s r m =
 
 -- "Start bounds, by cart": a route's first point has one
 pub first_bound : (p : Plan) (r : Route) → Memᴰ r (routes_of p)
-    → Memᴰ (record { from = 0; to = r.first; lo = 0; hi = some 0 }) (bounds p)
+    → Memᴰ (record { from = 0; to = r.first; lo = 0; hi = Some 0 }) (bounds p)
 first_bound p r m = start_there p _ (start_in (routes_of p) r m)
 
 -- ---- the points that event_of finds
@@ -94,14 +96,14 @@ same_kind_is leave entry t = absurd t
 same_kind_is leave leave t = refl
 
 -- what is found among points numbered from e on: the number of one of them, of that kind and step
-pub found : (k : Kind) (t e : ℕ) (ps : List Point) (v : ℕ) (d : Point) → find_point k t e ps ≡ some v
+pub found : (k : Kind) (t e : ℕ) (ps : List Point) (v : ℕ) (d : Point) → find_point k t e ps ≡ Some v
     → (i : ℕ) × (v ≡ e + i) × (i < length ps) × ((get_or ps i d).kind ≡ k) × ((get_or ps i d).step ≡ t)
 unfolding find_point
 found k t e [] v d q = absurd (none-ne-some _ q)
 found k t e (p ∷ ps) v d q = by (same_kind k p.kind && eqb t p.step) refl q (found k t (suc e) ps v d)
   where
-    by : (b : Bool) → (same_kind k p.kind && eqb t p.step) ≡ b → cond b (some e) (find_point k t (suc e) ps) ≡ some v
-        → (find_point k t (suc e) ps ≡ some v → (i : ℕ) × (v ≡ suc e + i) × (i < length ps) × ((get_or ps i d).kind ≡ k) × ((get_or ps i d).step ≡ t))
+    by : (b : Bool) → (same_kind k p.kind && eqb t p.step) ≡ b → cond b (Some e) (find_point k t (suc e) ps) ≡ Some v
+        → (find_point k t (suc e) ps ≡ Some v → (i : ℕ) × (v ≡ suc e + i) × (i < length ps) × ((get_or ps i d).kind ≡ k) × ((get_or ps i d).step ≡ t))
         → (i : ℕ) × (v ≡ e + i) × (i < length (p ∷ ps)) × ((get_or (p ∷ ps) i d).kind ≡ k) × ((get_or (p ∷ ps) i d).step ≡ t)
     by true b q rest =
         let (kind, step) = and_yes (same_kind k p.kind) (eqb t p.step) (subst T (sym b) tt) in
@@ -109,13 +111,13 @@ found k t e (p ∷ ps) v d q = by (same_kind k p.kind && eqb t p.step) refl q (f
     by false b q rest = let (i, v_is, l, kind, step) = rest q in (suc i, omega (arith, v_is), omega (arith, l), kind, step)
 
 -- of a route's points
-pub event_found : (k : Kind) (r : Route) (x : Visit) (v : ℕ) (d : Point) → event_of k r x ≡ some v
+pub event_found : (k : Kind) (r : Route) (x : Visit) (v : ℕ) (d : Point) → event_of k r x ≡ Some v
     → (i : ℕ) × (v ≡ r.first + i) × (i < length (route_points r)) × ((get_or (route_points r) i d).kind ≡ k) × ((get_or (route_points r) i d).step ≡ x.step)
 unfolding event_of
 event_found k r x v d q = found k x.step r.first (route_points r) v d q
 
 -- so it is an event of the plan, neither the start nor the finish
-event_within : (p : Plan) (k : Kind) (r : Route) (x : Visit) (v : ℕ) → Memᴰ r (routes_of p) → event_of k r x ≡ some v → v < event_count p
+event_within : (p : Plan) (k : Kind) (r : Route) (x : Visit) (v : ℕ) → Memᴰ r (routes_of p) → event_of k r x ≡ Some v → v < event_count p
 event_within p k r x v m q =
     let (i, v_is, l, _, _) = event_found k r x v (record { kind = k; cell = 0; step = 0 }) q in
     let (_, most) = route_within p r m in
@@ -206,7 +208,7 @@ pub sound_bounds_between : (p : Plan) → Sound p → (b : Bound) → Memᴰ b (
 sound_bounds_between p s b m = between_sort p s b (sort_of p b m)
 
 -- of every accepted plan
-pub bounds_between : (ts : Tables) (p : Plan) → judge ts ≡ accepted p → (b : Bound) → Memᴰ b (bounds p) → (b.from < event_count p) × (b.to < event_count p)
+pub bounds_between : (ts : Tables) (p : Plan) → judge ts ≡ Ok p → (b : Bound) → Memᴰ b (bounds p) → (b.from < event_count p) × (b.to < event_count p)
 bounds_between ts p e b m = sound_bounds_between p (judged_sound ts p e) b m
 
 -- ---- every event but the start is entered
@@ -255,6 +257,6 @@ sound_entered p s e l h = ⊎_elim (λ q. finish_entered p s e q) inner (eq-or-l
         point_entered p s r m e least most
 
 -- of every accepted plan
-pub entered : (ts : Tables) (p : Plan) → judge ts ≡ accepted p → (e : ℕ) → 0 < e → e < event_count p
+pub entered : (ts : Tables) (p : Plan) → judge ts ≡ Ok p → (e : ℕ) → 0 < e → e < event_count p
     → (b : Bound) × Memᴰ b (bounds p) × (b.to ≡ e) × (b.from < e)
 entered ts p q e l h = sound_entered p (judged_sound ts p q) e l h

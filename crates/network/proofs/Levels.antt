@@ -1,15 +1,14 @@
 -- No bound of an accepted plan runs backwards: each goes from a lower level to a higher one. Assumes nothing.
+use Rattle.std.specs.Prelude.{Some, Ok}
 use Prim.Native.Nat.{ℕ, suc, ◌+◌, ◌*◌, ◌-◌, ◌≤◌, ◌<◌}
 use native.Mathlib.Omega.{arith}
 use mathlib.Core.Path.{◌≡◌, refl, ap, ap₂, sym, ◌∙◌, subst}
 use mathlib.Core.Logic.{⊎_elim}
 use mathlib.Core.List.Memᴰ
 use mathlib.Core.List.{List, [], ◌∷◌, Memᴰ}
-use mathlib.Core.Option.{some}
 use lib.ListN.{length, get_or}
 use Rattle.floor.specs.Plan.{Plan}
 use Rattle.floor.specs.Paths.{steps}
-use Rattle.floor.specs.Refusal.{accepted}
 use Rattle.floor.specs.Tables.{Tables}
 use Rattle.floor.proofs.Accepted.{Sound}
 use Rattle.network.specs.Events.{Visit, Kind, approach, leave, Point, point, points_after, points, Route, routes_of, route_points, start, passing, events, event_count, finish_event, last_event, event_of}
@@ -111,7 +110,7 @@ travel_up p s r m i l =
     omega (arith, here, there, next, up)
 
 -- the level of a point of this kind of a visit
-event_level : (p : Plan) (k : Kind) (r : Route) (x : Visit) (u : ℕ) → Memᴰ r (routes_of p) → event_of k r x ≡ some u
+event_level : (p : Plan) (k : Kind) (r : Route) (x : Visit) (u : ℕ) → Memᴰ r (routes_of p) → event_of k r x ≡ Some u
     → level_of p u ≡ 3 * x.step + kind_level k
 unfolding point_level
 event_level p k r x u m e =
@@ -159,5 +158,5 @@ pub sound_bounds_rise : (p : Plan) → Sound p → (b : Bound) → Memᴰ b (bou
 sound_bounds_rise p s b m = rise_sort p s b (sort_of p b m)
 
 -- of every accepted plan
-pub bounds_rise : (ts : Tables) (p : Plan) → judge ts ≡ accepted p → (b : Bound) → Memᴰ b (bounds p) → level_of p b.from < level_of p b.to
+pub bounds_rise : (ts : Tables) (p : Plan) → judge ts ≡ Ok p → (b : Bound) → Memᴰ b (bounds p) → level_of p b.from < level_of p b.to
 bounds_rise ts p e b m = sound_bounds_rise p (judged_sound ts p e) b m

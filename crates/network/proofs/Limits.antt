@@ -1,8 +1,8 @@
 -- "Last, 4 for events, then bounds (3, 0)": plans at the two limits and just past them. Assumes nothing.
+use Rattle.std.specs.Prelude.{None}
 use Prim.Native.Nat.{ℕ, zero, suc, ◌+◌}
 use mathlib.Core.Path.{◌≡◌, refl}
 use mathlib.Core.List.{List, [], ◌∷◌, ◌++◌}
-use mathlib.Core.Option.{none}
 use lib.ListN.{length, replicate}
 use Rattle.floor.specs.Plan.{Plan}
 use Rattle.floor.specs.Examples.{verdict}
@@ -20,7 +20,7 @@ plan : List (List ℕ) → Plan
 plan ps =
     record {
       roads = record { from = 0; to = 1; length = 3; margin = 1 } ∷ [];
-      carts = replicate (length ps) (record { fastest = 1000; slowest = none });
+      carts = replicate (length ps) (record { fastest = 1000; slowest = None });
       paths = ps;
     }
 

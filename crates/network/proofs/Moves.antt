@@ -1,15 +1,16 @@
 -- Every move of a route of an accepted plan goes along a road: no part of a move has the length of a road that is not there. Assumes nothing.
+use native.Mathlib.Omega.{arith}
+use Rattle.std.proofs.lemmas.Bool.Decides.{nat_tests}
+use Rattle.std.specs.Prelude.{Some, Ok}
 use Prim.Native.Nat.{ℕ, suc}
-use mathlib.Core.Path.{◌≡◌, refl, ap, sym, ◌∙◌, subst}
+use mathlib.Core.Path.{◌≡◌, refl, sym, ◌∙◌, subst}
 use mathlib.Core.Bool.{Bool, true, false, ◌||◌, cond}
 use mathlib.Core.List.{List, [], ◌∷◌, Memᴰ}
-use mathlib.Core.Option
-use mathlib.Core.Option.{Option, none, some}
 use lib.Dec.{T, eqb, eqb→eq}
 use lib.ListN.{get_or}
 use mir.Facts.{and_yes}
-use Rattle.floor.specs.Refusal.{accepted}
-use Rattle.floor.specs.Plan.{Road, Plan, road_between, joined}
+use Rattle.floor.specs.Plan.{Plan, road_between, joined}
+use Rattle.floor.specs.declared.Road.{Road}
 use Rattle.floor.specs.Paths.{on_roads}
 use Rattle.floor.specs.Tables.{Tables}
 use Rattle.network.specs.Events.{Visit, visits_after, visits_of, Route, routes_of}
@@ -20,7 +21,7 @@ use Rattle.network.proofs.Routes.{Origin, origin, path_there}
 
 -- the road of a move is there
 abbrev pub RoadThere : List Road → Visit → Visit → Type 0
-RoadThere roads x y = (d : Road) × (road_between roads x.cell y.cell ≡ some d) × (road_of_move roads x y ≡ d)
+RoadThere roads x y = (d : Road) × (road_between roads x.cell y.cell ≡ Some d) × (road_of_move roads x y ≡ d)
 
 -- so are those of all moves after visit x
 abbrev pub RoadsAfter : List Road → Visit → List Visit → Type 0
@@ -35,11 +36,7 @@ RoadsThere roads (x ∷ xs) = RoadsAfter roads x xs
 -- two cells that are joined have a road
 joined_road : (roads : List Road) (x y : Visit) → T (joined roads x.cell y.cell) → RoadThere roads x y
 unfolding joined road_of_move
-joined_road roads x y t = by (road_between roads x.cell y.cell) refl t
-  where
-    by : (o : Option Road) → road_between roads x.cell y.cell ≡ o → T (elim o [ none ↦ false | some r ↦ true ]) → RoadThere roads x y
-    by none q t = absurd t
-    by (some d) q t = (d, q, ap (λ (o : Option Road). Option.get_or o (record { from = 0; to = 0; length = 0; margin = 0 })) q)
+joined_road roads x y t = grind (arith, nat_tests)
 
 -- the moves of a path that is on the roads, from visit x to the cell c on
 after_roads : (roads : List Road) (x : Visit) (c t : ℕ) (ds : List ℕ) → x.cell ≡ c → T (on_roads roads (c ∷ ds)) → RoadsAfter roads x (visits_after c t ds)
@@ -60,7 +57,7 @@ unfolding visits_of
 path_roads roads [] h = tt
 path_roads roads (c ∷ cs) h = after_roads roads (record { step = 0; cell = c }) c 1 cs refl h
 
-pub moves_have_roads : (ts : Tables) (p : Plan) → judge ts ≡ accepted p → (r : Route) → Memᴰ r (routes_of p) → RoadsThere p.roads r.visits
+pub moves_have_roads : (ts : Tables) (p : Plan) → judge ts ≡ Ok p → (r : Route) → Memᴰ r (routes_of p) → RoadsThere p.roads r.visits
 moves_have_roads ts p e r m =
     let o : Origin p r = origin p r m in
     subst (RoadsThere p.roads) (sym o.visited)

@@ -1,5 +1,7 @@
 -- Demand 2: times meet all bounds exactly when they meet the start, travel and finish bounds and keep the order of every two visits to a cell
 -- by different carts. Assumes nothing.
+use Rattle.std.proofs.lemmas.Bool.Decides.{nat_tests}
+use Rattle.std.specs.Prelude.{Option, None, Some}
 use Prim.Native.Nat.{ℕ, zero, suc, ◌+◌, ◌-◌, ◌≤◌, ◌<◌}
 use native.Mathlib.Nat.{eq-or-lt_of_le}
 use native.Mathlib.Omega.{arith}
@@ -7,11 +9,11 @@ use mathlib.Core.Path.{◌≡◌, refl, ap, sym, ◌∙◌, subst}
 use mathlib.Core.Logic.{◌≢◌, ⊎_elim}
 use mathlib.Core.Bool.{Bool, true, false, ◌&&◌, cond}
 use mathlib.Core.List.{List, [], ◌∷◌, flat_map, Memᴰ}
-use mathlib.Core.Option.{Option, none, some, none-ne-some, some-injective}
 use lib.Dec.{T, eqb, ltb, eqb→eq, lt→ltb, eqb_refl}
 use lib.Signed.{◌≤ℤ◌}
 use lib.ListN.{length, get_or}
 use mir.Facts.{yes_and}
+use Rattle.laws.proofs.Options.{none-ne-some, some-injective}
 use Rattle.laws.proofs.Signed.{signed, difference}
 use Rattle.floor.specs.Plan.{Plan}
 use Rattle.floor.proofs.Accepted.{Sound}
@@ -30,7 +32,7 @@ use Rattle.network.proofs.VisitPoints.{leave_there, approach_there, later_larger
 
 -- where there is a later visit to that cell, one is found, at that place or before
 first_later_found : (x : Visit) (ys : List Visit) (b : ℕ) (d : Visit) → b < length ys → x.step < (get_or ys b d).step → x.cell ≡ (get_or ys b d).cell
-    → (a : ℕ) × (a ≤ b) × (first_later x ys ≡ some (get_or ys a d))
+    → (a : ℕ) × (a ≤ b) × (first_later x ys ≡ Some (get_or ys a d))
 unfolding first_later
 first_later_found x [] b d l s c = absurd (omega arith)
 first_later_found x (y ∷ ys) b d l s c = by (ltb x.step y.step && eqb x.cell y.cell) refl b l s c (first_later_found x ys)
@@ -38,8 +40,8 @@ first_later_found x (y ∷ ys) b d l s c = by (ltb x.step y.step && eqb x.cell y
     by : (t : Bool) → (ltb x.step y.step && eqb x.cell y.cell) ≡ t
         → (b : ℕ) → b < length (y ∷ ys) → x.step < (get_or (y ∷ ys) b d).step → x.cell ≡ (get_or (y ∷ ys) b d).cell
         → ((b : ℕ) (d : Visit) → b < length ys → x.step < (get_or ys b d).step → x.cell ≡ (get_or ys b d).cell
-        → (a : ℕ) × (a ≤ b) × (first_later x ys ≡ some (get_or ys a d)))
-        → (a : ℕ) × (a ≤ b) × (cond t (some y) (first_later x ys) ≡ some (get_or (y ∷ ys) a d))
+        → (a : ℕ) × (a ≤ b) × (first_later x ys ≡ Some (get_or ys a d)))
+        → (a : ℕ) × (a ≤ b) × (cond t (Some y) (first_later x ys) ≡ Some (get_or (y ∷ ys) a d))
     by true e b l s c rest = (0, omega arith, refl)
     by false e zero l s c rest =
         absurd (subst T e (yes_and (ltb x.step y.step) (eqb x.cell y.cell) (lt→ltb _ _ s) (subst (λ (n : ℕ). T (eqb x.cell n)) c (eqb_refl x.cell))))
@@ -48,19 +50,19 @@ first_later_found x (y ∷ ys) b d l s c = by (ltb x.step y.step && eqb x.cell y
 -- ---- the order bound to it
 
 -- both events are there
-between_there : (u v : ℕ) (o q : Option ℕ) → o ≡ some u → q ≡ some v → Memᴰ (no_earlier u v) (between o q)
+between_there : (u v : ℕ) (o q : Option ℕ) → o ≡ Some u → q ≡ Some v → Memᴰ (no_earlier u v) (between o q)
 unfolding between
 between_there u v o q e f = rw (e, f) (Memᴰ.head refl)
 
 -- k is another cart, and the visit is there
-order_to_there : (j k : Route) (x z : Visit) (u v : ℕ) → j.number ≢ k.number → first_later x k.visits ≡ some z
-    → event_of leave j x ≡ some u → event_of approach k z ≡ some v → Memᴰ (no_earlier u v) (order_bounds_to j x k)
+order_to_there : (j k : Route) (x z : Visit) (u v : ℕ) → j.number ≢ k.number → first_later x k.visits ≡ Some z
+    → event_of leave j x ≡ Some u → event_of approach k z ≡ Some v → Memᴰ (no_earlier u v) (order_bounds_to j x k)
 unfolding order_bounds_to order_bound
 order_to_there j k x z u v ne f l a = by (eqb j.number k.number) refl
   where
-    first_one : (o : Option Visit) → o ≡ some z → Memᴰ (no_earlier u v) (order_bound j x k o)
-    first_one none e = absurd (none-ne-some _ e)
-    first_one (some y) e =
+    first_one : (o : Option Visit) → o ≡ Some z → Memᴰ (no_earlier u v) (order_bound j x k o)
+    first_one None e = absurd (none-ne-some _ e)
+    first_one (Some y) e =
         between_there u v (event_of leave j x) (event_of approach k y) l (ap (event_of approach k) (some-injective _ _ e) ∙ a)
 
     by : (b : Bool) → eqb j.number k.number ≡ b → Memᴰ (no_earlier u v) (cond b [] (order_bound j x k (first_later x k.visits)))
@@ -69,7 +71,7 @@ order_to_there j k x z u v ne f l a = by (eqb j.number k.number) refl
 
 -- it is among the order bounds, at j, then x, then k
 order_in : (rs : List Route) (j k : Route) (x z : Visit) (u v : ℕ) → Memᴰ j rs → Memᴰ k rs → Memᴰ x j.visits → j.number ≢ k.number
-    → first_later x k.visits ≡ some z → event_of leave j x ≡ some u → event_of approach k z ≡ some v
+    → first_later x k.visits ≡ Some z → event_of leave j x ≡ Some u → event_of approach k z ≡ Some v
     → Memᴰ (no_earlier u v) (order_bounds rs)
 unfolding order_bounds
 order_in rs j k x z u v mj mk mx ne f l a =
@@ -91,11 +93,7 @@ order_met t u v m = not_before t (no_earlier u v) m
 -- and whoever is in order meets it
 meet_order : (t : Times) (u v : ℕ) → t u ≤ℤ t v → Meets t (no_earlier u v)
 unfolding no_earlier
-meet_order t u v l =
-    record {
-      lower = omega (signed, difference (t v) (t u), l);
-      upper = λ h e. absurd (none-ne-some _ e);
-    }
+meet_order t u v l = grind (arith, nat_tests)
 
 -- along a route times do not go down
 along_route : (p : Plan) → Sound p → (t : Times) → MeetsAll t (travel_bounds p.roads (routes_of p)) → (r : Route) → Memᴰ r (routes_of p)
@@ -118,7 +116,7 @@ along_route p s t meets r m a (suc n) l =
 -- the approach point of the first later visit is no later than that of any later one
 first_approached : (p : Plan) → Sound p → (t : Times) → MeetsAll t (travel_bounds p.roads (routes_of p)) → (k : Route) → Memᴰ k (routes_of p)
     → (a b : ℕ) (d : Visit) → a ≤ b → b < length k.visits → (u v : ℕ)
-    → event_of approach k (get_or k.visits a d) ≡ some u → event_of approach k (get_or k.visits b d) ≡ some v
+    → event_of approach k (get_or k.visits a d) ≡ Some u → event_of approach k (get_or k.visits b d) ≡ Some v
     → t u ≤ℤ t v
 first_approached p s t meets k m a b d l h u v eu ev = ⊎_elim same later (eq-or-lt_of_le l)
   where

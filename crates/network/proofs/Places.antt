@@ -9,7 +9,8 @@ use mathlib.Core.List.Memᴰ
 use mathlib.Core.List.{List, [], ◌∷◌, ◌++◌, map, flat_map, append_assoc, Memᴰ}
 use lib.ListN.{length, get_or, length-append, length-map, get_or-append, get_or-map}
 use lib.Seq.{get_or-append-add, get_or-append_seam}
-use Rattle.floor.specs.Plan.{Cart, Plan}
+use Rattle.floor.specs.Plan.{Plan}
+use Rattle.floor.specs.declared.Cart.{Cart}
 use Rattle.network.specs.Events.{Point, Route, routes, routes_of, route_points, points, visits_of, Event, start, finish, passing, events, event_count, finish_event, places}
 
 -- ---- the numbers of things in a row

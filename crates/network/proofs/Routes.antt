@@ -7,7 +7,8 @@ use mathlib.Core.Logic.{⊎_elim}
 use mathlib.Core.List.Memᴰ
 use mathlib.Core.List.{List, [], ◌∷◌, map, flat_map, Memᴰ}
 use lib.ListN.{length, get_or, length-append, length-map}
-use Rattle.floor.specs.Plan.{Cart, Plan}
+use Rattle.floor.specs.Plan.{Plan}
+use Rattle.floor.specs.declared.Cart.{Cart}
 use Rattle.network.specs.Events.{visits_of, points, Route, routes, routes_of, route_points, finish, passing, events, event_count}
 use Rattle.laws.proofs.Members.{at_place}
 

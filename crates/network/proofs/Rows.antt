@@ -1,9 +1,8 @@
 -- Events and bounds of some plans, whole. Assumes nothing.
+use Rattle.std.specs.Prelude.{Option, None, Some, Err, Ok}
 use Prim.Native.Nat.{ℕ}
 use mathlib.Core.Path.{◌≡◌, refl}
 use mathlib.Core.List.{[], ◌∷◌, map}
-use mathlib.Core.Option.{Option, none, some}
-use Rattle.floor.specs.Refusal.{refused, accepted}
 use Rattle.floor.specs.Plan.{Plan}
 use Rattle.floor.specs.Tables.{Tables}
 use Rattle.floor.specs.Examples.{tables, the_pair, on_ab, a_to_b, twice_entered, crossing}
@@ -14,7 +13,7 @@ use Rattle.network.specs.Open.{open_network}
 
 -- the plan of accepted tables; one with nothing in it for others
 plan_of : Tables → Plan
-plan_of ts = elim (judge ts) [ refused r ↦ record { roads = []; carts = []; paths = [] } | accepted p ↦ p ]
+plan_of ts = elim (judge ts) [ Err r ↦ record { roads = []; carts = []; paths = [] } | Ok p ↦ p ]
 
 -- the bound [l, h] from u to v
 unfoldable pub bound : ℕ → ℕ → ℕ → Option ℕ → Bound
@@ -49,21 +48,21 @@ events_follow = refl
 
 -- one move at 300,000, without a slowest speed and with one: each part is rounded by itself, lo up and hi down
 moves_follow : map (λ (ts : Tables). bounds (plan_of ts)) (a_to_b "300000," ∷ a_to_b "300000,300000" ∷ [])
-    ≡ (bound 0 1 0 (some 0) ∷ bound 1 2 834 none ∷ bound 2 3 1667 none ∷ bound 3 4 834 none ∷ bound 4 5 0 none ∷ [])
-    ∷ (bound 0 1 0 (some 0) ∷ bound 1 2 834 (some 833) ∷ bound 2 3 1667 (some 1666) ∷ bound 3 4 834 (some 833) ∷ bound 4 5 0 none ∷ [])
+    ≡ (bound 0 1 0 (Some 0) ∷ bound 1 2 834 None ∷ bound 2 3 1667 None ∷ bound 3 4 834 None ∷ bound 4 5 0 None ∷ [])
+    ∷ (bound 0 1 0 (Some 0) ∷ bound 1 2 834 (Some 833) ∷ bound 2 3 1667 (Some 1666) ∷ bound 3 4 834 (Some 833) ∷ bound 4 5 0 None ∷ [])
     ∷ []
 unfolding open_network plan_of bound
 moves_follow = refl
 
 -- the first part and the third are as long as the margin, the second is the rest
 parts_follow : bounds (plan_of (tables ("4,3,10,3" ∷ []) ("1000," ∷ []) ("3,4" ∷ [])))
-    ≡ bound 0 1 0 (some 0) ∷ bound 1 2 3 none ∷ bound 2 3 4 none ∷ bound 3 4 3 none ∷ bound 4 5 0 none ∷ []
+    ≡ bound 0 1 0 (Some 0) ∷ bound 1 2 3 None ∷ bound 2 3 4 None ∷ bound 3 4 3 None ∷ bound 4 5 0 None ∷ []
 unfolding open_network plan_of bound
 parts_follow = refl
 
 -- a leave point, and an approach point, to be passed in this order
 then : ℕ → ℕ → Bound
-then u v = bound u v 0 none
+then u v = bound u v 0 None
 
 -- each earlier visit is bound to the first later one of each other cart
 orders_follow : map (λ (ts : Tables). order_bounds (routes_of (plan_of ts))) (the_pair "250000," ∷ twice_entered ∷ crossing "250000," ∷ [])

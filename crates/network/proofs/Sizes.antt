@@ -1,16 +1,18 @@
 -- How long a bound can make a part of a move last: at most 10^8 milliseconds. Assumes nothing.
+use Rattle.std.proofs.lemmas.Bool.Decides.{nat_tests}
+use Rattle.std.specs.Prelude.{Option, None, Some, unwrap_or, Ok}
 use Prim.Native.Nat.{ℕ, suc, ◌+◌, ◌*◌, ◌-◌, ◌/◌, ◌≤◌, ◌<◌}
 use native.Mathlib.Nat.{div-lt_iff_lt-mul, div-le_of_le-mul, mul-le-mul_right}
 use native.Mathlib.Omega.{arith}
-use mathlib.Core.Path.{◌≡◌, refl, sym, ◌∙◌, subst}
+use mathlib.Core.Path.{◌≡◌, refl, sym, subst}
 use mathlib.Core.Logic.{⊎_elim}
 use mathlib.Core.Bool.{Bool, true, false, cond}
 use mathlib.Core.List.Memᴰ
 use mathlib.Core.List.{List, [], ◌∷◌, Memᴰ}
-use mathlib.Core.Option.{Option, none, some, none-ne-some, some-injective, get_or}
-use lib.ListN.{length}
-use Rattle.floor.specs.Plan.{Road, Cart, Plan, joins, road_between}
-use Rattle.floor.specs.Refusal.{accepted}
+use Rattle.laws.proofs.Options.{none-ne-some, some-injective}
+use Rattle.floor.specs.Plan.{Plan, joins, road_between}
+use Rattle.floor.specs.declared.Road.{Road}
+use Rattle.floor.specs.declared.Cart.{Cart}
 use Rattle.floor.specs.Tables.{Tables}
 use Rattle.floor.proofs.Accepted.{Sound, SoundRoad, SoundCart}
 use Rattle.network.specs.Events.{Visit}
@@ -37,12 +39,12 @@ div_most l s h = div-le_of_le-mul s {m = 1000 * l} {n = l} (mul-le-mul_right l h
 -- ---- the roads of moves
 
 -- a road that is found is one of those there are
-road_found : (rs : List Road) (a b : ℕ) (d : Road) → road_between rs a b ≡ some d → Memᴰ d rs
+road_found : (rs : List Road) (a b : ℕ) (d : Road) → road_between rs a b ≡ Some d → Memᴰ d rs
 unfolding road_between
 road_found [] a b d e = absurd (none-ne-some _ e)
 road_found (r ∷ rs) a b d e = by (joins a b r) e (road_found rs a b d)
   where
-    by : (t : Bool) → cond t (some r) (road_between rs a b) ≡ some d → (road_between rs a b ≡ some d → Memᴰ d rs) → Memᴰ d (r ∷ rs)
+    by : (t : Bool) → cond t (Some r) (road_between rs a b) ≡ Some d → (road_between rs a b ≡ Some d → Memᴰ d rs) → Memᴰ d (r ∷ rs)
     by true e rest = Memᴰ.head (sym (some-injective _ _ e))
     by false e rest = Memᴰ.tail (rest e)
 
@@ -60,9 +62,9 @@ unfolding road_of_move
 move_short roads h x y = by (road_between roads x.cell y.cell) refl
   where
     by : (o : Option Road) → road_between roads x.cell y.cell ≡ o
-        → Short (get_or o (record { from = 0; to = 0; length = 0; margin = 0 }))
-    by none e = (omega arith, omega arith)
-    by (some d) e = sound_short d (h d (road_found roads x.cell y.cell d e))
+        → Short (unwrap_or o (record { from = 0; to = 0; length = 0; margin = 0 }))
+    by None e = (omega arith, omega arith)
+    by (Some d) e = sound_short d (h d (road_found roads x.cell y.cell d e))
 
 -- ---- the parts of moves
 
@@ -109,18 +111,12 @@ route_parts_fit roads h c (x ∷ xs) part m = parts_after_fit roads h c x xs par
 
 -- lo is at most 10^8, and hi where there is one
 abbrev pub Small : Bound → Type 0
-Small b = (b.lo ≤ 100_000_000) × ((h : ℕ) → b.hi ≡ some h → h ≤ 100_000_000)
+Small b = (b.lo ≤ 100_000_000) × ((h : ℕ) → b.hi ≡ Some h → h ≤ 100_000_000)
 
 -- a slowest speed is at least 1,000
-most_time_small : (c : Cart) → SoundCart c → (part : Part) → ShortPart c part → (h : ℕ) → most_time part ≡ some h → h ≤ 100_000_000
+most_time_small : (c : Cart) → SoundCart c → (part : Part) → ShortPart c part → (h : ℕ) → most_time part ≡ Some h → h ≤ 100_000_000
 unfolding most_time
-most_time_small c s part f h e = by part.slowest refl e
-  where
-    by : (o : Option ℕ) → part.slowest ≡ o → elim o [ none ↦ none | some s ↦ some (1000 * part.length / s) ] ≡ some h → h ≤ 100_000_000
-    by none q e = absurd (none-ne-some _ e)
-    by (some v) q e =
-        let slow : 1000 ≤ v = (s.slow v (sym f.1 ∙ q)).0 in
-        omega (arith, some-injective _ _ e, div_most part.length v slow, f.0)
+most_time_small c s part f h e = grind (arith, nat_tests)
 
 -- the bounds of a cart's parts
 part_bounds_small : (c : Cart) → SoundCart c → (e : ℕ) (ps : List Part) → ((part : Part) → Memᴰ part ps → ShortPart c part)
@@ -153,6 +149,6 @@ pub sound_bound_sizes : (p : Plan) → Sound p → (b : Bound) → Memᴰ b (bou
 sound_bound_sizes p s b m = small_sort p s b (sort_of p b m)
 
 -- of every accepted plan
-pub bound_sizes : (ts : Tables) (p : Plan) → judge ts ≡ accepted p → (b : Bound) → Memᴰ b (bounds p)
-    → (b.lo ≤ 100_000_000) × ((h : ℕ) → b.hi ≡ some h → h ≤ 100_000_000)
+pub bound_sizes : (ts : Tables) (p : Plan) → judge ts ≡ Ok p → (b : Bound) → Memᴰ b (bounds p)
+    → (b.lo ≤ 100_000_000) × ((h : ℕ) → b.hi ≡ Some h → h ≤ 100_000_000)
 bound_sizes ts p e b m = sound_bound_sizes p (judged_sound ts p e) b m

@@ -1,22 +1,24 @@
 -- Of what sort each bound of a plan is: a start, travel, order or finish bound, and of which routes. Assumes nothing.
+use Rattle.std.specs.Prelude.{Option, None, Some}
 use Prim.Native.Nat.{ℕ, ◌<◌}
 use mathlib.Core.Path.{◌≡◌, refl, sym, subst}
 use mathlib.Core.Logic.{◌≢◌, ⊎_elim}
 use mathlib.Core.Bool.{Bool, true, false, ◌&&◌, cond}
 use mathlib.Core.List.Memᴰ
 use mathlib.Core.List.{List, [], ◌∷◌, flat_map, Memᴰ}
-use mathlib.Core.Option.{Option, none, some, none-ne-some, some-injective}
 use lib.Dec.{T, ltb, eqb, eqb→eq, ltb→lt}
 use mir.Facts.{and_yes}
 use borrow.Author.Tests.{eqb-false}
-use Rattle.floor.specs.Plan.{Road, Plan}
+use Rattle.laws.proofs.Options.{none-ne-some, some-injective}
+use Rattle.floor.specs.Plan.{Plan}
+use Rattle.floor.specs.declared.Road.{Road}
 use Rattle.network.specs.Events.{Visit, approach, leave, Route, routes_of, event_of, last_event, finish_event}
 use Rattle.network.specs.Bounds.{Bound, no_earlier, start_bounds, route_parts, part_bounds, travel_bounds, first_later, between, order_bound, order_bounds_to, order_bounds, finish_bounds, bounds}
 use Rattle.laws.proofs.Members.{to_flat, of_flat}
 
 -- a start bound
 abbrev pub start_bound : Route → Bound
-start_bound r = record { from = 0; to = r.first; lo = 0; hi = some 0 }
+start_bound r = record { from = 0; to = r.first; lo = 0; hi = Some 0 }
 
 -- the travel bounds of one route
 abbrev pub along : List Road → Route → List Bound
@@ -28,13 +30,13 @@ pub record FirstLater (x : Visit) (ys : List Visit) (z : Visit) : Type 0 where
   pub same_cell : x.cell ≡ z.cell
   pub later : x.step < z.step
 
-pub first_later_is : (x : Visit) (ys : List Visit) (z : Visit) → first_later x ys ≡ some z → FirstLater x ys z
+pub first_later_is : (x : Visit) (ys : List Visit) (z : Visit) → first_later x ys ≡ Some z → FirstLater x ys z
 unfolding first_later
 first_later_is x [] z e = absurd (none-ne-some _ e)
 first_later_is x (y ∷ ys) z e = by (ltb x.step y.step && eqb x.cell y.cell) refl e (first_later_is x ys z)
   where
-    by : (b : Bool) → (ltb x.step y.step && eqb x.cell y.cell) ≡ b → cond b (some y) (first_later x ys) ≡ some z
-        → (first_later x ys ≡ some z → FirstLater x ys z) → FirstLater x (y ∷ ys) z
+    by : (b : Bool) → (ltb x.step y.step && eqb x.cell y.cell) ≡ b → cond b (Some y) (first_later x ys) ≡ Some z
+        → (first_later x ys ≡ Some z → FirstLater x ys z) → FirstLater x (y ∷ ys) z
     by true b e rest =
         let (later, same) = and_yes (ltb x.step y.step) (eqb x.cell y.cell) (subst T (sym b) tt) in
         subst (FirstLater x (y ∷ ys)) (some-injective _ _ e)
@@ -53,11 +55,11 @@ pub record Order (rs : List Route) (b : Bound) : Type 0 where
   pub k_there : Memᴰ k rs
   pub x_there : Memᴰ x j.visits
   pub others : j.number ≢ k.number
-  pub later : first_later x k.visits ≡ some y
+  pub later : first_later x k.visits ≡ Some y
   pub behind : ℕ
   pub before : ℕ
-  pub leaves : event_of leave j x ≡ some behind
-  pub approaches : event_of approach k y ≡ some before
+  pub leaves : event_of leave j x ≡ Some behind
+  pub approaches : event_of approach k y ≡ Some before
   pub is : b ≡ no_earlier behind before
 
 -- the four sorts
@@ -71,18 +73,18 @@ pub data Sort (p : Plan) (b : Bound) : Type 0 where
 
 -- a bound between two events that are there
 between_is : (b : Bound) (u v : Option ℕ) → Memᴰ b (between u v)
-    → (m : ℕ) × (n : ℕ) × (u ≡ some m) × (v ≡ some n) × (b ≡ no_earlier m n)
+    → (m : ℕ) × (n : ℕ) × (u ≡ Some m) × (v ≡ Some n) × (b ≡ no_earlier m n)
 unfolding between
-between_is b none v m = absurd (Memᴰ.not-nil m)
-between_is b (some u) none m = absurd (Memᴰ.not-nil m)
-between_is b (some u) (some v) m = (u, v, refl, refl, Memᴰ.eq_of_singleton m)
+between_is b None v m = absurd (Memᴰ.not-nil m)
+between_is b (Some u) None m = absurd (Memᴰ.not-nil m)
+between_is b (Some u) (Some v) m = (u, v, refl, refl, Memᴰ.eq_of_singleton m)
 
 -- a bound to the first later visit, if there is one
 order_is : (rs : List Route) (j k : Route) (x : Visit) (b : Bound) → Memᴰ j rs → Memᴰ k rs → Memᴰ x j.visits → j.number ≢ k.number
     → (o : Option Visit) → first_later x k.visits ≡ o → Memᴰ b (order_bound j x k o) → Order rs b
 unfolding order_bound
-order_is rs j k x b mj mk mx ne none e m = absurd (Memᴰ.not-nil m)
-order_is rs j k x b mj mk mx ne (some y) e m =
+order_is rs j k x b mj mk mx ne None e m = absurd (Memᴰ.not-nil m)
+order_is rs j k x b mj mk mx ne (Some y) e m =
     let (u, v, l, a, i) = between_is b (event_of leave j x) (event_of approach k y) m in
     record {
       j = j;

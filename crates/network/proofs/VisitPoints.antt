@@ -1,4 +1,6 @@
 -- The points of a route's visits: where `event_of` finds them, and that those which order bounds go between are there. Assumes nothing.
+use Rattle.std.proofs.lemmas.Bool.Decides.{nat_tests}
+use Rattle.std.specs.Prelude.{Some}
 use Prim.Native.Nat.{ℕ, zero, suc, ◌+◌, ◌*◌, ◌≤◌, ◌<◌}
 use native.Mathlib.Nat.{eq-or-lt_of_le}
 use native.Mathlib.Omega.{arith}
@@ -6,12 +8,11 @@ use mathlib.Core.Path.{◌≡◌, refl, ap, sym, ◌∙◌, subst}
 use mathlib.Core.Logic.{◌≢◌, ⊎_elim}
 use mathlib.Core.Bool.{Bool, ◌&&◌, cond}
 use mathlib.Core.List.{List, [], ◌∷◌, Memᴰ}
-use mathlib.Core.Option.{some}
 use lib.Dec.{T, eqb, eqb→eq, eqb_refl}
 use lib.ListN.{length, get_or}
 use mir.Facts.{and_yes, yes_and}
 use Rattle.laws.proofs.Members.{place_of}
-use Rattle.laws.proofs.Tests.{passes, fails, below_or_not}
+use Rattle.laws.proofs.Tests.{passes, fails}
 use Rattle.laws.proofs.Rising.{Rises, Rising, rising_rest, rises_first, rising_place}
 use Rattle.floor.specs.Plan.{Plan}
 use Rattle.floor.specs.Paths.{at_step, steps}
@@ -54,16 +55,16 @@ same_kind_self leave = tt
 
 -- each point of a list that rises is found at its place: those before it are of another level, so of another kind or step
 pub found_at_place : (ps : List Point) (e i : ℕ) (d : Point) → Rising point_level ps → i < length ps
-    → find_point (get_or ps i d).kind (get_or ps i d).step e ps ≡ some (e + i)
+    → find_point (get_or ps i d).kind (get_or ps i d).step e ps ≡ Some (e + i)
 unfolding find_point point_level
 found_at_place [] e i d h l = absurd (omega arith)
 found_at_place (p ∷ ps) e zero d h l =
-    ap (λ (b : Bool). cond b (some e) (find_point p.kind p.step (suc e) ps))
+    ap (λ (b : Bool). cond b (Some e) (find_point p.kind p.step (suc e) ps))
     (passes (same_kind p.kind p.kind && eqb p.step p.step) (yes_and (same_kind p.kind p.kind) (eqb p.step p.step) (same_kind_self p.kind) (eqb_refl p.step)))
-    ∙ ap some (omega arith)
+    ∙ ap Some (omega arith)
 found_at_place (p ∷ ps) e (suc i) d h l =
-    ap (λ (b : Bool). cond b (some e) (find_point q.kind q.step (suc e) ps)) (fails (same_kind q.kind p.kind && eqb q.step p.step) other)
-    ∙ found_at_place ps (suc e) i d (rising_rest point_level p ps h) (omega arith) ∙ ap some (omega arith)
+    ap (λ (b : Bool). cond b (Some e) (find_point q.kind q.step (suc e) ps)) (fails (same_kind q.kind p.kind && eqb q.step p.step) other)
+    ∙ found_at_place ps (suc e) i d (rising_rest point_level p ps h) (omega arith) ∙ ap Some (omega arith)
   where
     q : Point
     q = get_or ps i d
@@ -98,10 +99,10 @@ points_after_placed x (y ∷ ys) (suc i) v d l =
 
 -- the point that stands at place n of a route's points is found there
 found_there : (r : Route) → Rising step_of r.visits → (k : Kind) (x : Visit) (n : ℕ) (d : Point) → n < length (route_points r)
-    → get_or (route_points r) n d ≡ point k x → event_of k r x ≡ some (r.first + n)
+    → get_or (route_points r) n d ≡ point k x → event_of k r x ≡ Some (r.first + n)
 unfolding event_of route_points point
 found_there r h k x n d l e =
-    subst (λ (q : Point). find_point q.kind q.step r.first (route_points r) ≡ some (r.first + n)) e
+    subst (λ (q : Point). find_point q.kind q.step r.first (route_points r) ≡ Some (r.first + n)) e
     (found_at_place (route_points r) r.first n d (points_rise r.visits h) l)
 
 -- where the points of the i-th visit stand among a route's: its entry, its leave point if a visit follows, and the approach point of that
@@ -133,7 +134,7 @@ no_point = record { kind = entry; cell = 0; step = 0 }
 
 -- the leave point of a visit that another follows
 pub leave_of : (r : Route) → Rising step_of r.visits → (i : ℕ) (v : Visit) → suc i < length r.visits
-    → event_of leave r (get_or r.visits i v) ≡ some (r.first + (3 * i + 1))
+    → event_of leave r (get_or r.visits i v) ≡ Some (r.first + (3 * i + 1))
 unfolding route_points
 leave_of r h i v l =
     let p : PointsOf r.visits i v no_point = points_placed r.visits i v no_point l in
@@ -142,7 +143,7 @@ leave_of r h i v l =
 
 -- the approach point of the one that follows
 pub approach_of : (r : Route) → Rising step_of r.visits → (i : ℕ) (v : Visit) → suc i < length r.visits
-    → event_of approach r (get_or r.visits (suc i) v) ≡ some (r.first + (3 * i + 2))
+    → event_of approach r (get_or r.visits (suc i) v) ≡ Some (r.first + (3 * i + 2))
 unfolding route_points
 approach_of r h i v l =
     let p : PointsOf r.visits i v no_point = points_placed r.visits i v no_point l in
@@ -151,14 +152,14 @@ approach_of r h i v l =
 
 -- and its entry
 pub entry_of : (r : Route) → Rising step_of r.visits → (i : ℕ) (v : Visit) → suc i < length r.visits
-    → event_of entry r (get_or r.visits (suc i) v) ≡ some (r.first + (3 * i + 3))
+    → event_of entry r (get_or r.visits (suc i) v) ≡ Some (r.first + (3 * i + 3))
 unfolding route_points
 entry_of r h i v l =
     let p : PointsOf r.visits i v no_point = points_placed r.visits i v no_point l in
     found_there r h entry (get_or r.visits (suc i) v) (3 * i + 3) no_point p.room p.enters
 
 -- the first visit's entry is the route's first point
-pub first_entry_of : (r : Route) → Rising step_of r.visits → (v : Visit) → 0 < length r.visits → event_of entry r (get_or r.visits 0 v) ≡ some (r.first + 0)
+pub first_entry_of : (r : Route) → Rising step_of r.visits → (v : Visit) → 0 < length r.visits → event_of entry r (get_or r.visits 0 v) ≡ Some (r.first + 0)
 unfolding route_points points
 first_entry_of r h v l = found_there r h entry (get_or r.visits 0 v) 0 no_point (some_point r.visits l) (first r.visits l)
   where
@@ -179,20 +180,16 @@ no_visit = record { step = 0; cell = 0 }
 -- two carts are not in one cell at one step
 not_both : (p : Plan) → Sound p → (a b t : ℕ) → a < length p.paths → b < length p.paths → a ≢ b → t < steps p.paths
     → at_step t (get_or p.paths a []) ≢ at_step t (get_or p.paths b [])
-not_both p s a b t la lb ne l e =
-    ⊎_elim
-    (λ (h : a < b). s.apart a b t h lb l e)
-    (λ (h : b ≤ a). ⊎_elim (λ (q : b ≡ a). ne (sym q)) (λ (k : b < a). s.apart b a t k la l (sym e)) (eq-or-lt_of_le h))
-    (below_or_not a b)
+not_both p s a b t la lb ne l e = grind (arith, nat_tests)
 
 -- a visit that is not the last of its route has a leave point; the last one is to a cell that no other cart enters later
 pub leave_there : (p : Plan) → Sound p → (j k : Route) → Memᴰ j (routes_of p) → Memᴰ k (routes_of p) → j.number ≢ k.number
     → (x y : Visit) → Memᴰ x j.visits → Memᴰ y k.visits → x.cell ≡ y.cell → x.step < y.step
-    → (u : ℕ) × (event_of leave j x ≡ some u)
+    → (u : ℕ) × (event_of leave j x ≡ Some u)
 leave_there p s j k mj mk ne x y nx ny c l =
     let (i, h, e) = place_of j.visits x no_visit nx in ⊎_elim (λ q. absurd (stays i e q)) (leaves i e) (eq-or-lt_of_le h)
   where
-    leaves : (i : ℕ) → get_or j.visits i no_visit ≡ x → suc i < length j.visits → (u : ℕ) × (event_of leave j x ≡ some u)
+    leaves : (i : ℕ) → get_or j.visits i no_visit ≡ x → suc i < length j.visits → (u : ℕ) × (event_of leave j x ≡ Some u)
     leaves i e h = (_, ap (event_of leave j) (sym e) ∙ leave_of j (route_rises p j mj) i no_visit h)
 
     oj : Origin p j
@@ -224,11 +221,11 @@ first_step (c ∷ cs) h = refl
 
 -- a visit that begins later has an approach point
 pub approach_there : (p : Plan) (k : Route) → Memᴰ k (routes_of p) → (y : Visit) → Memᴰ y k.visits → 0 < y.step
-    → (v : ℕ) × (event_of approach k y ≡ some v)
+    → (v : ℕ) × (event_of approach k y ≡ Some v)
 approach_there p k m y n l =
     let (i, h, e) = place_of k.visits y no_visit n in by i h e
   where
-    by : (i : ℕ) → i < length k.visits → get_or k.visits i no_visit ≡ y → (v : ℕ) × (event_of approach k y ≡ some v)
+    by : (i : ℕ) → i < length k.visits → get_or k.visits i no_visit ≡ y → (v : ℕ) × (event_of approach k y ≡ Some v)
     by zero h e =
         let o : Origin p k = origin p k m in
         let q : List ℕ = get_or p.paths o.place [] in
@@ -243,7 +240,7 @@ approach_there p k m y n l =
 
 -- the points of later visits have larger numbers
 pub later_larger : (r : Route) → Rising step_of r.visits → (k l : Kind) (x y : Visit) (u v : ℕ) → x.step < y.step
-    → event_of k r x ≡ some u → event_of l r y ≡ some v → u < v
+    → event_of k r x ≡ Some u → event_of l r y ≡ Some v → u < v
 unfolding route_points point_level
 later_larger r h k l x y u v s eu ev =
     let d : Point = record { kind = k; cell = 0; step = 0 } in

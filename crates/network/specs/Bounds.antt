@@ -1,9 +1,10 @@
 -- The bounds of a plan (document 01, "Bounds"; document 004, Algorithm 1, lines 11 to 19, and its speed limits).
 -- Assumes nothing.
-use Rattle.std.specs.Prelude.{ℕ, suc, ◌+◌, ◌*◌, ◌-◌, ◌/◌, ◌&&◌, cond, ltb, eqb}
+use Rattle.std.specs.Prelude.{ℕ, suc, ◌+◌, ◌*◌, ◌-◌, ◌/◌, ◌&&◌, cond, ltb, eqb, Option, None, Some, unwrap_or}
 use mathlib.Core.List.{List, [], ◌∷◌, ◌++◌, map, flat_map}
-use Rattle.std.proofs.Math.Option.{Option, none, some, get_or}
-use Rattle.floor.specs.Plan.{Road, Cart, Plan, road_between}
+use Rattle.floor.specs.Plan.{Plan, road_between}
+use Rattle.floor.specs.declared.Road.{Road}
+use Rattle.floor.specs.declared.Cart.{Cart}
 use Rattle.network.specs.Events.{Visit, approach, leave, Route, routes_of, event_of, last_event, finish_event}
 
 -- "A bound [lo, hi] from event u to event v"; "hi may be none"
@@ -15,11 +16,11 @@ pub record Bound : Type 0 where
 
 -- [0, none]
 unfoldable pub no_earlier : ℕ → ℕ → Bound
-no_earlier u v = record { from = u; to = v; lo = 0; hi = none }
+no_earlier u v = record { from = u; to = v; lo = 0; hi = None }
 
 -- "Start bounds, by cart: [0, 0] from the start to the cart's first entry."
 unfoldable pub start_bounds : List Route → List Bound
-start_bounds = map (λ (r : Route). record { from = 0; to = r.first; lo = 0; hi = some 0 })
+start_bounds = map (λ (r : Route). record { from = 0; to = r.first; lo = 0; hi = Some 0 })
 
 -- "A move has three parts of lengths margin, length − 2 × margin, margin."
 unfoldable pub part_lengths : Road → List ℕ
@@ -44,12 +45,12 @@ least_time c part = div_up (1000 * part.length) c.fastest
 
 -- "hi is 1,000 × part ÷ slowest rounded down, or none"
 unfoldable pub most_time : Part → Option ℕ
-most_time part = elim part.slowest [ none ↦ none | some s ↦ some (1000 * part.length / s) ]
+most_time part = elim part.slowest [ None ↦ None | Some s ↦ Some (1000 * part.length / s) ]
 
 -- the road of a move; a plan with a move without one is turned down (7)
 unfoldable pub road_of_move : List Road → Visit → Visit → Road
 road_of_move roads x y =
-    get_or (road_between roads x.cell y.cell) (record { from = 0; to = 0; length = 0; margin = 0 })
+    unwrap_or (road_between roads x.cell y.cell) (record { from = 0; to = 0; length = 0; margin = 0 })
 
 -- the parts of the moves after visit x, "along the route"
 unfoldable pub parts_after : List Road → Cart → Visit → List Visit → List Part
@@ -73,19 +74,19 @@ travel_bounds roads = flat_map (λ (r : Route). part_bounds r.cart r.first (rout
 
 -- "k's first entry to the same cell at a step after t, if any"
 unfoldable pub first_later : Visit → List Visit → Option Visit
-first_later x [] = none
-first_later x (y ∷ ys) = cond (ltb x.step y.step && eqb x.cell y.cell) (some y) (first_later x ys)
+first_later x [] = None
+first_later x (y ∷ ys) = cond (ltb x.step y.step && eqb x.cell y.cell) (Some y) (first_later x ys)
 
 -- [0, none] from one event to another, where both are there
 unfoldable pub between : Option ℕ → Option ℕ → List Bound
-between none v = []
-between (some u) none = []
-between (some u) (some v) = no_earlier u v ∷ []
+between None v = []
+between (Some u) None = []
+between (Some u) (Some v) = no_earlier u v ∷ []
 
 -- "from that entry's leave point to the approach point of" k's visit y (both are there in every accepted plan)
 unfoldable pub order_bound : Route → Visit → Route → Option Visit → List Bound
-order_bound j x k none = []
-order_bound j x k (some y) = between (event_of leave j x) (event_of approach k y)
+order_bound j x k None = []
+order_bound j x k (Some y) = between (event_of leave j x) (event_of approach k y)
 
 -- "and for each other cart k"
 unfoldable pub order_bounds_to : Route → Visit → Route → List Bound

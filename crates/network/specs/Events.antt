@@ -1,9 +1,9 @@
 -- The events of a plan (document 01, "Events"; document 004, Algorithm 1, lines 2 to 9, and its safety markers).
 -- Assumes nothing.
-use Rattle.std.specs.Prelude.{ℕ, suc, ◌+◌, ◌-◌, Bool, true, false, ◌&&◌, cond, eqb, length}
+use Rattle.std.specs.Prelude.{ℕ, suc, ◌+◌, ◌-◌, Bool, true, false, ◌&&◌, cond, eqb, length, Option, None, Some}
 use mathlib.Core.List.{List, [], ◌∷◌, ◌++◌, map, flat_map}
-use Rattle.std.proofs.Math.Option.{Option, none, some}
-use Rattle.floor.specs.Plan.{Cart, Plan}
+use Rattle.floor.specs.Plan.{Plan}
+use Rattle.floor.specs.declared.Cart.{Cart}
 
 -- a cart's visit to a cell, by the step at which it is entered
 pub record Visit : Type 0 where
@@ -112,8 +112,8 @@ same_kind leave leave = true
 
 -- the number of the point of this kind of the visit at step t, among points numbered from e on
 unfoldable pub find_point : Kind → ℕ → ℕ → List Point → Option ℕ
-find_point k t e [] = none
-find_point k t e (p ∷ ps) = cond (same_kind k p.kind && eqb t p.step) (some e) (find_point k t (suc e) ps)
+find_point k t e [] = None
+find_point k t e (p ∷ ps) = cond (same_kind k p.kind && eqb t p.step) (Some e) (find_point k t (suc e) ps)
 
 -- a visit's entry event, its leave point (none for the last visit) and its approach point (none for the first)
 unfoldable pub event_of : Kind → Route → Visit → Option ℕ

@@ -1,9 +1,9 @@
 -- What a load says of three tables, whole (document 01, "Turned down because of the input").
 -- Assumes nothing.
-use Rattle.std.specs.Prelude.{leb, length}
+use Rattle.std.specs.Prelude.{leb, length, Ok}
 use Rattle.floor.specs.declared.Reason.TheVariants.{Limit}
 use Rattle.floor.specs.declared.Table.TheVariants.{Paths}
-use Rattle.floor.specs.Refusal.{Judged, accepted, ◌>>=◌, ◌>>◌, need}
+use Rattle.floor.specs.Refusal.{Judged, ◌>>=◌, ◌>>◌, need}
 use Rattle.floor.specs.Plan.{Plan}
 use Rattle.floor.specs.Tables.{Tables, read_tables}
 use Rattle.network.specs.Events.{event_count}
@@ -14,7 +14,7 @@ unfoldable pub within_limits : Plan → Judged Plan
 within_limits p = do
   need (leb (event_count p) 4096) Limit Paths 0
   need (leb (length (bounds p)) 8192) Limit Paths 0
-  accepted p
+  Ok p
 
 -- the plan of three tables, or why they are turned down
 unfoldable pub judge : Tables → Judged Plan

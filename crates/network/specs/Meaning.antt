@@ -1,9 +1,7 @@
 -- What the bounds mean for times, and demand 2's equivalence.
 -- Assumes nothing.
-use Rattle.std.specs.Prelude.{ℕ, ◌<◌, ◌≡◌, ◌↔◌, ◌≢◌, ℤ, pos, ◌-ℤ◌, ◌≤ℤ◌}
+use Rattle.std.specs.Prelude.{ℕ, ◌<◌, ◌≡◌, ◌↔◌, ◌≢◌, ℤ, pos, ◌-ℤ◌, ◌≤ℤ◌, Some, Ok}
 use mathlib.Core.List.{List, Memᴰ}
-use Rattle.std.proofs.Math.Option.{some}
-use Rattle.floor.specs.Refusal.{accepted}
 use Rattle.floor.specs.Plan.{Plan}
 use Rattle.floor.specs.Tables.{Tables}
 use Rattle.network.specs.Events.{Visit, approach, leave, Route, routes_of, event_of, finish_event}
@@ -17,7 +15,7 @@ Times = ℕ → ℤ
 -- "lo ≤ time(v) − time(u) ≤ hi; hi may be none"
 pub record Meets (t : Times) (b : Bound) : Type 0 where
   pub lower : pos b.lo ≤ℤ (t b.to -ℤ t b.from)
-  pub upper : (h : ℕ) → b.hi ≡ some h → (t b.to -ℤ t b.from) ≤ℤ pos h
+  pub upper : (h : ℕ) → b.hi ≡ Some h → (t b.to -ℤ t b.from) ≤ℤ pos h
 
 -- "meet every bound"
 abbrev pub MeetsAll : Times → List Bound → Type 0
@@ -27,8 +25,8 @@ MeetsAll t bs = (b : Bound) → Memᴰ b bs → Meets t b
 pub record InOrder (t : Times) (j : Route) (x : Visit) (k : Route) (y : Visit) : Type 0 where
   pub behind : ℕ
   pub before : ℕ
-  pub leaves : event_of leave j x ≡ some behind
-  pub approaches : event_of approach k y ≡ some before
+  pub leaves : event_of leave j x ≡ Some behind
+  pub approaches : event_of approach k y ≡ Some before
   pub ordered : t behind ≤ℤ t before
 
 -- "Two visits to a cell by different carts, entered at different steps": all of them keep their order
@@ -41,7 +39,7 @@ KeepsOrder p t =
 -- demand 2: "Times meet all bounds exactly when they meet the start, travel and finish bounds and keep the order of every two visits to a cell by different carts."
 abbrev pub Demand2 : Type 0
 Demand2 =
-    (ts : Tables) (p : Plan) → judge ts ≡ accepted p
+    (ts : Tables) (p : Plan) → judge ts ≡ Ok p
     → (t : Times)
     → MeetsAll t (bounds p)
     ↔ (MeetsAll t (start_bounds (routes_of p))

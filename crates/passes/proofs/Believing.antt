@@ -1,10 +1,10 @@
 -- What a certificate is believed for: the passes settle on the values rounded up, after as many passes as the greatest number of arcs. Assumes nothing.
+use Rattle.std.specs.Prelude.{None, Some}
 use Prim.Native.Nat.{ℕ, ◌≤◌, ◌<◌}
 use native.Mathlib.Omega.{arith}
 use mathlib.Core.Path.{◌≡◌, ap, ap₂, sym, ◌∙◌, subst}
 use mathlib.Core.Bool.{true}
 use mathlib.Core.List.{List, flat_map}
-use mathlib.Core.Option.{none, some}
 use lib.IntN.{ℤ, pos}
 use lib.Signed.{◌<ℤ◌}
 use lib.ListN.{length, get_or}
@@ -33,13 +33,13 @@ module _ (bs : List Bound) (values₀ values : List ℤ) (k : ℕ) (fit : bounds
   n = length values₀
 
   -- a time as a sum in an array
-  time_there : (v : ℕ) → v < n → get_or (sums_in values) v none ≡ some (value values v)
+  time_there : (v : ℕ) → v < n → get_or (sums_in values) v None ≡ Some (value values v)
   time_there v l =
       let h : low <ℤ value values v = let z = (r.each v l).no_less in omega (signed, z) in
       sum_of values v ∙ ap sum_at (any_default values v low (pos 0) (omega (arith, long))) ∙ above_there (value values v) h
 
   -- what the passes settle on
-  pub believed : settled arcs n ≡ some (record { passes = k; sums = sums_in values })
+  pub believed : settled arcs n ≡ Some (record { passes = k; sums = sums_in values })
   believed =
       let (s, e, times, most, reached) =
       certified_settled arcs n some_event (arcs_between n bs fit) (omega arith) (value values₀) c.certificate
@@ -49,9 +49,9 @@ module _ (bs : List Bound) (values₀ values : List ℤ) (k : ℕ) (fit : bounds
       let (u, m, g) = reached in
       let passes-are : s.passes ≡ k = omega (arith, most v l, q, g, r.none_more u m) in
       let sums-are : s.sums ≡ sums_in values =
-      ext_get_or none s.sums (sums_in values)
+      ext_get_or None s.sums (sums_in values)
       (ap length (settled_is arcs n s e).0 ∙ sums_length arcs n s.passes ∙ sym (sums_in_length values ∙ long))
       (λ i h. times i (subst (λ (j : ℕ). i < j) (ap length (settled_is arcs n s e).0 ∙ sums_length arcs n s.passes) h)
       ∙ sym (time_there i (subst (λ (j : ℕ). i < j) (ap length (settled_is arcs n s e).0 ∙ sums_length arcs n s.passes) h)))
       in
-      e ∙ ap₂ (λ (i : ℕ) (x : Sums). some (record { passes = i; sums = x })) passes-are sums-are
+      e ∙ ap₂ (λ (i : ℕ) (x : Sums). Some (record { passes = i; sums = x })) passes-are sums-are

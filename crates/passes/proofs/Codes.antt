@@ -1,7 +1,6 @@
 -- Codes of arcs in an array: they stay codes of the bounds. Assumes nothing.
 use Prim.Native.Nat.{ℕ, zero, suc}
-use mathlib.Core.Path.{◌≡◌, refl, sym, subst}
-use mathlib.Core.Bool.{Bool, true, false, cond}
+use mathlib.Core.Path.{refl}
 use mathlib.Core.List.{List, [], ◌∷◌}
 use lib.ListN.{set, replicate}
 use Rattle.network.specs.Bounds.{Bound}
@@ -14,15 +13,9 @@ none_coded bs (suc n) zero = of_none refl
 none_coded bs (suc n) (suc v) = none_coded bs n v
 
 -- a code stored
-set_coded : (bs : List Bound) (codes : List ℕ) (u code : ℕ) → Code bs code → Coded bs codes → Coded bs (set codes u code)
+pub set_coded : (bs : List Bound) (codes : List ℕ) (u code : ℕ) → Code bs code → Coded bs codes → Coded bs (set codes u code)
 set_coded bs [] u code c h v = h v
 set_coded bs (x ∷ codes) zero code c h zero = c
 set_coded bs (x ∷ codes) zero code c h (suc v) = h (suc v)
 set_coded bs (x ∷ codes) (suc u) code c h zero = h zero
 set_coded bs (x ∷ codes) (suc u) code c h (suc v) = set_coded bs codes u code c (λ w. h (suc w)) v
-
--- or not
-pub stored_coded : (bs : List Bound) (codes codes' : List ℕ) (b : Bool) (u code : ℕ) → codes' ≡ cond b (set codes u code) codes → Code bs code → Coded bs codes
-    → Coded bs codes'
-stored_coded bs codes codes' true u code e c h = subst (Coded bs) (sym e) (set_coded bs codes u code c h)
-stored_coded bs codes codes' false u code e c h = subst (Coded bs) (sym e) h

@@ -1,4 +1,5 @@
 -- Back along parents, and once round the cycle that is met there: what holds after each step, and the chain in the end. Assumes nothing.
+use Rattle.std.specs.Prelude.{Option, None, Some}
 use Prim.Native.Nat.{ℕ, zero, suc, ◌+◌, ◌-◌, ◌*◌, ◌/◌, ◌%◌, ◌≤◌, ◌<◌}
 use native.Mathlib.Nat.{eq-or-lt_of_le}
 use native.Mathlib.Numerals.{add-one}
@@ -7,13 +8,11 @@ use mathlib.Core.Path.{◌≡◌, refl, ap, ap₂, sym, ◌∙◌, subst}
 use mathlib.Core.Logic.{◌≢◌, ⊎_elim}
 use mathlib.Core.Bool.{true, cond}
 use mathlib.Core.List.{List, [], ◌∷◌, ◌++◌, map, flat_map, map-append}
-use mathlib.Core.Option.{Option, none, some, none-ne-some, some-injective}
 use lib.Dec.{T, ltb}
 use lib.IntN.{ℤ, pos, neg_ℤ, neg_ℤ-neg_ℤ, neg_ℤ-+ℤ, ◌+ℤ◌, ◌-ℤ◌}
 use lib.ListN.{length, get_or, set, length-append, length-map}
-use mir.Syntax.{w64}
-use mir.Val.{SFits}
-use Rattle.laws.proofs.Signed.{signed, mag_within, sum, difference, neg_up, neg_dn, up_sum, dn_sum, Within}
+use Rattle.laws.proofs.Options.{none-ne-some, some-injective}
+use Rattle.laws.proofs.Signed.{signed, sum, difference, neg_up, neg_dn, up_sum, dn_sum, Within}
 use Rattle.words.specs.Words.{words, with_word, written}
 use Rattle.words.proofs.Storing.{written_more, word_behind}
 use Rattle.network.specs.Bounds.{Bound}
@@ -47,7 +46,7 @@ module _ (m : ℕ) (ends ranges codes : List ℕ) where
   -- the arc of a parent leads one step further back
   pub step_back : (n v j x c : ℕ) → x ≡ steps_back arcs ps j v → Parent m n ends ranges codes x c → get_or ends c 0 ≡ steps_back arcs ps (suc j) v
   step_back n v j x c at p =
-      p.begins ∙ sym (back_suc arcs ps j v p.place (ap (λ (y : ℕ). get_or ps y none) (sym at) ∙ p.place_is))
+      p.begins ∙ sym (back_suc arcs ps j v p.place (ap (λ (y : ℕ). get_or ps y None) (sym at) ∙ p.place_is))
 
   module _ (n v : ℕ) (fit : bounds_fit n (bounds_in m ends ranges) ≡ true) (low : v < n) where
     -- each event back is among the events
@@ -55,10 +54,10 @@ module _ (m : ℕ) (ends ranges codes : List ℕ) where
     back_below j x at = subst (λ (y : ℕ). y < n) (sym at) (steps_below arcs n ps (omega arith) (arcs_between n (bounds_in m ends ranges) fit) j v low)
 
     -- and has a parent
-    pub back_parent : ((j : ℕ) → get_or ps (steps_back arcs ps j v) none ≢ none) → Coded (bounds_in m ends ranges) codes
+    pub back_parent : ((j : ℕ) → get_or ps (steps_back arcs ps j v) None ≢ None) → Coded (bounds_in m ends ranges) codes
         → (j x : ℕ) → x ≡ steps_back arcs ps j v → Parent m n ends ranges codes x (get_or codes x 0 - 1)
     back_parent parented coded j x at =
-        parent m n ends ranges codes x fit coded (subst (λ (y : ℕ). get_or ps y none ≢ none) (sym at) (parented j))
+        parent m n ends ranges codes x fit coded (subst (λ (y : ℕ). get_or ps y None ≢ None) (sym at) (parented j))
 
 -- ---- one item more
 
@@ -70,36 +69,23 @@ leg_there (b ∷ bs) zero d h = refl
 leg_there (b ∷ bs) (suc i) d h = leg_there bs i d (omega arith)
 
 -- its leg behind the others
-legs_behind : (bs : List Bound) (is : List Pick) (ls : List Leg) (i : Pick) (l : Leg) → picked_legs bs is ≡ some ls
-    → leg_at bs i.place i.direction ≡ some l → picked_legs bs (is ++ (i ∷ [])) ≡ some (ls ++ (l ∷ []))
+legs_behind : (bs : List Bound) (is : List Pick) (ls : List Leg) (i : Pick) (l : Leg) → picked_legs bs is ≡ Some ls
+    → leg_at bs i.place i.direction ≡ Some l → picked_legs bs (is ++ (i ∷ [])) ≡ Some (ls ++ (l ∷ []))
 unfolding picked_legs
 legs_behind bs [] ls i l e f =
-    ap (λ (o : Option Leg). elim o [ none ↦ none | some x ↦ some (x ∷ []) ]) f
-    ∙ ap (λ (q : List Leg). some (q ++ (l ∷ []))) (some-injective _ _ e)
+    ap (λ (o : Option Leg). elim o [ None ↦ None | Some x ↦ Some (x ∷ []) ]) f
+    ∙ ap (λ (q : List Leg). Some (q ++ (l ∷ []))) (some-injective _ _ e)
 legs_behind bs (y ∷ is) ls i l e f = by (leg_at bs y.place y.direction) (picked_legs bs is) e (λ q g. legs_behind bs is q i l g f) refl
   where
-    by : (o : Option Leg) (q : Option (List Leg)) → ◌≡◌ {A = Option (List Leg)} (elim o [ none ↦ none | some x ↦ elim q [ none ↦ none | some xs ↦ some (x ∷ xs) ] ]) (some ls)
-        → ((xs : List Leg) → picked_legs bs is ≡ some xs → picked_legs bs (is ++ (i ∷ [])) ≡ some (xs ++ (l ∷ []))) → picked_legs bs is ≡ q
-        → ◌≡◌ {A = Option (List Leg)} (elim o [ none ↦ none | some x ↦ elim (picked_legs bs (is ++ (i ∷ []))) [ none ↦ none | some xs ↦ some (x ∷ xs) ] ])
-        (some (ls ++ (l ∷ [])))
-    by none q e more g = absurd (none-ne-some _ e)
-    by (some x) none e more g = absurd (none-ne-some _ e)
-    by (some x) (some xs) e more g =
-        ap (λ (o : Option (List Leg)). elim o [ none ↦ none | some zs ↦ some (x ∷ zs) ]) (more xs g)
-        ∙ ap (λ (zs : List Leg). some (zs ++ (l ∷ []))) (some-injective _ _ e)
-
--- its cost fits with the others
-pub less_fits : (costs : ℤ) (g : ℕ) → Within 4_096_000_000_000_000 costs → g ≤ 1_000_000_000_001 → SFits w64 (costs -ℤ pos g)
-less_fits costs g w h =
-    let all : Within 4_098_000_000_000_000 (costs -ℤ pos g) =
-    record { above = omega (arith, up_sum costs (neg_ℤ (pos g)), neg_up (pos g)); under = omega (arith, dn_sum costs (neg_ℤ (pos g)), neg_dn (pos g)) }
-    in
-    record { sfits = omega (arith, mag_within (costs -ℤ pos g) all) }
-
-pub more_fits : (costs : ℤ) (g : ℕ) → Within 4_096_000_000_000_000 costs → g ≤ 1_000_000_000_001 → SFits w64 (costs +ℤ pos g)
-more_fits costs g w h =
-    let all : Within 4_098_000_000_000_000 (costs +ℤ pos g) = record { above = omega (arith, up_sum costs (pos g)); under = omega (arith, dn_sum costs (pos g)) } in
-    record { sfits = omega (arith, mag_within (costs +ℤ pos g) all) }
+    by : (o : Option Leg) (q : Option (List Leg)) → ◌≡◌ {A = Option (List Leg)} (elim o [ None ↦ None | Some x ↦ elim q [ None ↦ None | Some xs ↦ Some (x ∷ xs) ] ]) (Some ls)
+        → ((xs : List Leg) → picked_legs bs is ≡ Some xs → picked_legs bs (is ++ (i ∷ [])) ≡ Some (xs ++ (l ∷ []))) → picked_legs bs is ≡ q
+        → ◌≡◌ {A = Option (List Leg)} (elim o [ None ↦ None | Some x ↦ elim (picked_legs bs (is ++ (i ∷ []))) [ None ↦ None | Some xs ↦ Some (x ∷ xs) ] ])
+        (Some (ls ++ (l ∷ [])))
+    by None q e more g = absurd (none-ne-some _ e)
+    by (Some x) None e more g = absurd (none-ne-some _ e)
+    by (Some x) (Some xs) e more g =
+        ap (λ (o : Option (List Leg)). elim o [ None ↦ None | Some zs ↦ Some (x ∷ zs) ]) (more xs g)
+        ∙ ap (λ (zs : List Leg). Some (zs ++ (l ∷ []))) (some-injective _ _ e)
 
 -- its cost, as the code adds it
 pub costs_more : (c g : ℕ) (costs costs' adds : ℤ)
@@ -143,7 +129,7 @@ module _ (own m n : ℕ) (ends ranges codes : List ℕ) (start : ℕ) (numbers�
     pub at : x ≡ steps_back (arcs m ends ranges codes) (ps m ends ranges codes) k start
     pub picks : List Pick
     pub long : length picks ≡ k
-    pub legs_are : picked_legs (bounds_in m ends ranges) picks ≡ some (map mirror (trail (arcs m ends ranges codes) (ps m ends ranges codes) k start))
+    pub legs_are : picked_legs (bounds_in m ends ranges) picks ≡ Some (map mirror (trail (arcs m ends ranges codes) (ps m ends ranges codes) k start))
     pub costs_are : costs ≡ neg_ℤ (total (trail (arcs m ends ranges codes) (ps m ends ranges codes) k start))
     pub small : Within (k * 1_000_000_000_000) costs
     pub numbers_are : numbers ≡ written (words 2 (numbers_of picks)) numbers₀
@@ -193,7 +179,7 @@ module _ (own m n : ℕ) (ends ranges codes : List ℕ) (start : ℕ) (numbers�
         let arcs' : List Arc = arcs m ends ranges codes in
         let ps' : Parents = ps m ends ranges codes in
         back_parent m ends ranges codes n start fit start_below
-        (λ j. subst (λ (y : ℕ). get_or ps' y none ≢ none)
+        (λ j. subst (λ (y : ℕ). get_or ps' y None ≢ None)
         (sym (ap (steps_back arcs' ps' j) g.starts ∙ sym (repeated_add (before arcs' ps') n j g.event))) (g.trapped.parented (n + j)))
         coded k x g.at
 
@@ -220,7 +206,7 @@ module _ (own m n : ℕ) (ends ranges codes : List ℕ) (start : ℕ) (numbers�
       let pick : Pick = record { place = c / 2; direction = direction_of c } in
       let old : List Arc = trail arcs' ps' k start in
       let more : trail arcs' ps' (suc k) start ≡ old ++ (arc ∷ []) =
-      trail_suc arcs' ps' k start p.place (ap (λ (y : ℕ). get_or ps' y none) (sym g.at) ∙ p.place_is)
+      trail_suc arcs' ps' k start p.place (ap (λ (y : ℕ). get_or ps' y None) (sym g.at) ∙ p.place_is)
       in
       let (cost-is, cost-small) = costs_more c (get_or ranges c 0) costs costs' arc.adds p.lower p.upper p.small w.0 w.1 in
       let within : Within (k * 1_000_000_000_000) costs = g.small in
@@ -238,8 +224,8 @@ module _ (own m n : ℕ) (ends ranges codes : List ℕ) (start : ℕ) (numbers�
         long = length-append g.picks (pick ∷ []) ∙ ap (λ (j : ℕ). j + 1) g.long ∙ add-one k;
         legs_are =
             legs_behind (bounds_in m ends ranges) g.picks (map mirror old) pick (mirror arc) g.legs_are (leg_there (bounds_in m ends ranges) (c / 2) (direction_of c) (omega (arith, p.within, bounds_length m ends ranges)) ∙ p.its_leg)
-            ∙ ap some (sym (map-append mirror old (arc ∷ [])))
-            ∙ ap (λ (l : List Arc). some (map mirror l)) (sym more);
+            ∙ ap Some (sym (map-append mirror old (arc ∷ [])))
+            ∙ ap (λ (l : List Arc). Some (map mirror l)) (sym more);
         costs_are =
             cost-is ∙ ap (λ (z : ℤ). z +ℤ neg_ℤ arc.adds) g.costs_are ∙ sym (neg_ℤ-+ℤ (total old) arc.adds)
             ∙ ap neg_ℤ (sym (total_snoc old arc)) ∙ ap (λ (l : List Arc). neg_ℤ (total l)) (sym more);
@@ -288,7 +274,7 @@ module _ (own m n : ℕ) (ends ranges codes : List ℕ) (start : ℕ) (numbers�
           picks = g.picks;
           legs = map mirror (trail arcs' ps' k start);
           legs_are = g.legs_are;
-          closed = subst (λ (l : List Arc). T (closed_below_0 (some (map mirror l)))) same (mirror_closed arcs' n cycle);
+          closed = subst (λ (l : List Arc). T (closed_below_0 (Some (map mirror l)))) same (mirror_closed arcs' n cycle);
           long_is = sym g.long;
           costs_are = g.costs_are ∙ sym (mirror_cost (trail arcs' ps' k start));
           numbers_are = g.numbers_are;

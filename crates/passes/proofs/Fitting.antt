@@ -1,4 +1,5 @@
 -- Bounds in arrays that fit: what each of them says, and the arcs that come of them. Assumes nothing.
+use Rattle.std.specs.Prelude.{Option, None, Some}
 use Prim.Native.Nat.{ℕ, zero, suc, ◌+◌, ◌*◌, ◌≤◌, ◌<◌}
 use native.Mathlib.Omega.{arith}
 use mathlib.Core.Path.{◌≡◌, refl, ap, sym, ◌∙◌, subst}
@@ -6,7 +7,6 @@ use mathlib.Core.Logic.{⊎_elim}
 use mathlib.Core.Bool.{true, ◌&&◌}
 use mathlib.Core.List.Memᴰ
 use mathlib.Core.List.{List, [], ◌∷◌, flat_map, Memᴰ}
-use mathlib.Core.Option.{Option, none, some}
 use lib.Dec.{T, leb, ltb, leb→le, le→leb, ltb→lt, lt→ltb}
 use lib.IntN.{pos}
 use lib.ListN.{length, get_or, drop}
@@ -116,8 +116,8 @@ pub record FittingArc (n : ℕ) (a : Arc) : Type 0 where
 backward_fits : (n : ℕ) (b : Bound) (o : Option ℕ) → b.from < n → b.to < n → hi_number o ≤ 1_000_000_000_001
     → (a : Arc) → Memᴰ a (backward b o) → FittingArc n a
 unfolding backward hi_number
-backward_fits n b none f t h a m = absurd (Memᴰ.not-nil m)
-backward_fits n b (some k) f t h a m =
+backward_fits n b None f t h a m = absurd (Memᴰ.not-nil m)
+backward_fits n b (Some k) f t h a m =
     subst (FittingArc n) (sym (Memᴰ.eq_of_singleton m)) (record {
       between = (t, f);
       within = record { above = omega (arith, neg_up (pos k)); under = omega (arith, neg_dn (pos k)) };

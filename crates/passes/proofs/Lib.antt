@@ -1,4 +1,6 @@
 pub mod Fitting
+pub mod Networks
+pub mod Backward
 pub mod Marks
 pub mod Codes
 pub mod Arcs
@@ -10,9 +12,9 @@ pub mod Timing
 pub mod Outcomes
 pub mod Copying
 pub mod Running
-pub mod Networks
+pub mod EachFit
 pub mod ArcWeights
 pub mod Checks
 pub mod BoundChecks
-pub mod Sweeps
 pub mod Believing
+pub mod Sweeps

@@ -1,5 +1,6 @@
 -- A cycle of parents of which nothing is known but what is checked: the events back are led, they come round and gain, and the start reaches them.
 -- Assumes nothing.
+use Rattle.std.specs.Prelude.{Option, None, Some}
 use Prim.Native.Nat.{ℕ, zero, suc, ◌+◌, ◌-◌, ◌*◌, ◌/◌, ◌%◌, ◌≤◌, ◌<◌}
 use native.Mathlib.Nat.{eq-or-lt_of_le}
 use native.Mathlib.Decide.{dec_lt}
@@ -9,10 +10,10 @@ use mathlib.Core.Path.{◌≡◌, refl, ap, sym, ◌∙◌, subst}
 use mathlib.Core.Logic.{◌≢◌, ◌⊎◌, inl, inr, ⊎_elim, by_cases}
 use mathlib.Core.Bool.{true}
 use mathlib.Core.List.{List, [], ◌∷◌, ◌++◌, flat_map, Memᴰ}
-use mathlib.Core.Option.{Option, none, some, none-ne-some}
 use lib.IntN.{ℤ, pos, neg_ℤ, neg_ℤ-+ℤ, ◌+ℤ◌, ◌-ℤ◌}
 use lib.Signed.{lt_z, ◌<ℤ◌}
 use lib.ListN.{length, get_or}
+use Rattle.laws.proofs.Options.{none-ne-some}
 use Rattle.laws.proofs.Members.{to_flat, at_place}
 use Rattle.laws.proofs.Signed.{signed, sum, neg_up, neg_dn, up_sum, dn_sum, Within}
 use Rattle.network.specs.Bounds.{Bound}
@@ -29,9 +30,9 @@ use Rattle.walks.proofs.Settling.{one_value, settled_bounds, settled_walk}
 use Rattle.schedule.specs.Timetable.{forward, ways}
 use Rattle.passes.specs.Solving.{bounds_fit, no_bound}
 use Rattle.passes.specs.Places.{bound_at}
-use Rattle.passes.specs.Marks.{parents_in, Coded, Led, LedBack, Gaining, CycleFound}
+use Rattle.passes.specs.Marks.{parents_in, Led, LedBack, Gaining, CycleFound}
 use Rattle.passes.proofs.Fitting.{bounds_length, bound_is, arcs_between}
-use Rattle.passes.proofs.ParentArcs.{Parent, parent, before_below, steps_below}
+use Rattle.passes.proofs.ParentArcs.{Parent, before_below, steps_below}
 use Rattle.passes.proofs.Cycles.{step_back, costs_more}
 
 -- ---- a cycle that gains
@@ -99,17 +100,17 @@ walk_on arcs k u w walk v (a ∷ as') b h =
 
 -- the greatest sum on a closed walk that gains would grow by going round
 cycle_unsettled : (arcs : List Arc) (n : ℕ) → 0 < n → Between arcs n → (x : ℕ) (l : List Arc) → Back x x l → ((a : Arc) → Memᴰ a l → Memᴰ a arcs)
-    → pos 0 <ℤ total l → (k : ℕ) (w : ℤ) → Walk arcs k x w → settled arcs n ≡ none
+    → pos 0 <ℤ total l → (k : ℕ) (w : ℤ) → Walk arcs k x w → settled arcs n ≡ None
 cycle_unsettled arcs n p between x l back of gains k w walk = by (settled arcs n) refl
   where
-    by : (o : Option Settled) → settled arcs n ≡ o → o ≡ none
-    by none e = refl
-    by (some s) e =
-        let a : AtLeast (get_or s.sums x none) w = settled_bounds arcs n p between s e k x w walk in
+    by : (o : Option Settled) → settled arcs n ≡ o → o ≡ None
+    by None e = refl
+    by (Some s) e =
+        let a : AtLeast (get_or s.sums x None) w = settled_bounds arcs n p between s e k x w walk in
         let r : WalkWithin arcs s.passes x a.value = settled_walk arcs n p between s e x a.value a.there in
         let (m, y, on, q) = walk_on arcs r.count x a.value r.walk x l back of in
-        let b : AtLeast (get_or s.sums x none) y = settled_bounds arcs n p between s e m x y on in
-        let f : a.value ≡ b.value = one_value (get_or s.sums x none) a.value b.value a.there b.there in
+        let b : AtLeast (get_or s.sums x None) y = settled_bounds arcs n p between s e m x y on in
+        let f : a.value ≡ b.value = one_value (get_or s.sums x None) a.value b.value a.there b.there in
         absurd (omega (signed, sum a.value (total l), b.least))
 
 -- the event is the start, or a bound goes there from the start
@@ -201,12 +202,6 @@ module _ (m : ℕ) (ends ranges codes : List ℕ) where
           subst (λ (y : ℕ). y < length codes) (sym r.at)
           (steps_below arcs (length codes) ps (omega arith) (arcs_between (length codes) (bounds_in m ends ranges) fit) k start low)
 
-      pub round_parent : bounds_fit (length codes) (bounds_in m ends ranges) ≡ true → Coded (bounds_in m ends ranges) codes
-          → ((j : ℕ) → Led arcs ps (steps_back arcs ps j start)) → Parent m (length codes) ends ranges codes x (get_or codes x 0 - 1)
-      round_parent fit coded led =
-          let l : Led arcs ps x = subst (Led arcs ps) (sym r.at) (led k) in
-          parent m (length codes) ends ranges codes x fit coded (λ e. none-ne-some _ (sym e ∙ l.place_is))
-
       -- one step more
       pub round_more : (n c : ℕ) → Parent m n ends ranges codes x c → (0 < k → x ≢ start) → (costs' : ℤ)
           → (c % 2 ≡ 0 → costs' ≡ costs -ℤ pos (get_or ranges c 0)) × (c % 2 ≡ 1 → costs' ≡ costs +ℤ pos (get_or ranges c 0 - 1))
@@ -215,7 +210,7 @@ module _ (m : ℕ) (ends ranges codes : List ℕ) where
           let arc : Arc = get_or arcs p.place no_arc in
           let old : List Arc = trail arcs ps k start in
           let more : trail arcs ps (suc k) start ≡ old ++ (arc ∷ []) =
-          trail_suc arcs ps k start p.place (ap (λ (y : ℕ). get_or ps y none) (sym r.at) ∙ p.place_is)
+          trail_suc arcs ps k start p.place (ap (λ (y : ℕ). get_or ps y None) (sym r.at) ∙ p.place_is)
           in
           let (cost-is, cost-small) = costs_more c (get_or ranges c 0) costs costs' arc.adds p.lower p.upper p.small w.0 w.1 in
           let within : Within (k * 1_000_000_000_000) costs = r.small in

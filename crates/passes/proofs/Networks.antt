@@ -1,20 +1,19 @@
--- Arrays that hold a network within the limits: what the test says, and how it is made bound by bound. Assumes nothing.
-use Prim.Native.Nat.{ℕ, zero, suc, ◌+◌, ◌*◌, ◌≤◌, ◌<◌}
-use native.Mathlib.Numerals.{add-one}
+-- What a network as the code holds it says of its bounds. Assumes nothing.
+use Rattle.std.specs.Prelude.{Option, None, Some}
+use Prim.Native.Nat.{ℕ, zero, suc, ◌+◌, ◌-◌, ◌*◌, ◌/◌, ◌%◌, ◌≤◌, ◌<◌}
 use native.Mathlib.Omega.{arith}
-use mathlib.Core.Path.{◌≡◌, refl, ap, sym, ◌∙◌, subst}
-use mathlib.Core.Bool.{Bool, true, false, ◌&&◌}
-use mathlib.Core.List.{List, ◌∷◌}
-use lib.Dec.{T, leb, leb→le, le→leb}
-use lib.ListN.{length, get_or, drop, drop_of_length-le}
-use lib.Seq.{drop-cons}
-use mir.Facts.{and_yes, yes_and}
-use Rattle.laws.proofs.Tests.{passes, fails}
+use Rattle.std.specs.Option.{SomeIff}
+use mathlib.Core.Path.{◌≡◌, refl, ap, ◌∙◌, subst}
+use mathlib.Core.List.{List}
+use lib.ListN.{length, get_or}
 use Rattle.network.specs.Bounds.{Bound}
-use Rattle.network.specs.BoundArrays.{bounds_in}
-use Rattle.passes.specs.Solving.{bounds_fit, network_fits}
-use Rattle.passes.specs.Places.{bound_at}
-use Rattle.passes.proofs.Fitting.{bounds_length, hi_number_of, bound_is, Fitting, fitting, fitting_passes, place_fits}
+use Rattle.std.proofs.lemmas.Bool.Decides.{nat_tests}
+use Rattle.network.specs.BoundArrays.{hi_of, bounds_in}
+use Rattle.passes.specs.declared.arrays.Network.{Network}
+use Rattle.passes.specs.Solving.{no_bound, bounds_fit, network_fits}
+use Rattle.passes.specs.Marks.{Code, of_forward, of_backward}
+use Rattle.passes.specs.Networks.{bounds_of, bound_of, HiOf}
+use Rattle.passes.proofs.Fitting.{Fitting, fitting, place_fits, bounds_length, bound_is, hi_number_of}
 
 -- the limits
 pub record Limits (m n : ℕ) (ends ranges : List ℕ) : Type 0 where
@@ -24,107 +23,60 @@ pub record Limits (m n : ℕ) (ends ranges : List ℕ) : Type 0 where
   pub some_event : 1 ≤ n
   pub few_events : n ≤ 4096
 
--- within them, and bounds that fit
-pub record Network (m n : ℕ) (ends ranges : List ℕ) : Type 0 where
-  pub limits : Limits m n ends ranges
-  pub all_fit : bounds_fit n (bounds_in m ends ranges) ≡ true
+-- within them the bounds decide
+pub network_is : (m n : ℕ) (ends ranges : List ℕ) → Limits m n ends ranges → bounds_fit n (bounds_in m ends ranges) ≡ network_fits m n ends ranges
+unfolding network_fits
+network_is m n ends ranges l = grind (arith, nat_tests)
 
-module _ (m n : ℕ) (ends ranges : List ℕ) where
-  -- the tests before the bounds, one more each
-  abbrev tests₂ : Bool
-  tests₂ = leb m 12_288 && leb (2 * m) (length ends)
+module _ (net : Network) where
+  -- there are as many bounds as it says
+  pub bounds_long : length (bounds_of net) ≡ net.bounds
+  bounds_long = bounds_length net.bounds net.ends.now net.ranges.now
 
-  abbrev tests₃ : Bool
-  tests₃ = tests₂ && leb (2 * m) (length ranges)
+  module _ (i : ℕ) (h : i < net.bounds) where
+    pub place_there : i < length (bounds_of net)
+    place_there = omega (arith, bounds_long)
 
-  abbrev tests₄ : Bool
-  tests₄ = tests₃ && leb 1 n
+    -- the bound at a place is one of them
+    pub bound_there : (d : Bound) → get_or (bounds_of net) i d ≡ bound_of net i
+    bound_there d = bound_is net.bounds net.ends.now net.ranges.now i d h
 
-  abbrev tests₅ : Bool
-  tests₅ = tests₄ && leb n 4096
+    -- and fits
+    pub fits : Fitting net.events (bound_of net i)
+    fits = fitting net.events (bound_of net i) (place_fits net.events net.bounds net.ends.now net.ranges.now i h net.all_fit)
 
-  -- what the test says
-  pub network : network_fits m n ends ranges ≡ true → Network m n ends ranges
-  unfolding network_fits
-  network e =
-      let a = and_yes tests₅ (bounds_fit n (bounds_in m ends ranges)) (subst T (sym e) tt) in
-      let b = and_yes tests₄ (leb n 4096) a.0 in
-      let c = and_yes tests₃ (leb 1 n) b.0 in
-      let d = and_yes tests₂ (leb (2 * m) (length ranges)) c.0 in
-      let f = and_yes (leb m 12_288) (leb (2 * m) (length ends)) d.0 in
-      record {
-        limits = record {
-          few_bounds = leb→le m 12_288 f.0;
-          ends_long = leb→le (2 * m) (length ends) f.1;
-          ranges_long = leb→le (2 * m) (length ranges) d.1;
-          some_event = leb→le 1 n c.1;
-          few_events = leb→le n 4096 b.1;
-        };
-        all_fit = passes (bounds_fit n (bounds_in m ends ranges)) a.1;
-      }
+    -- its hi, which is one less than the number that stands for it
+    pub hi_told : (o : Option ℕ) → SomeIff o (1 ≤ get_or net.ranges.now (2 * i + 1) 0) (get_or net.ranges.now (2 * i + 1) 0 - 1) → HiOf (bound_of net i) o
+    unfolding hi_of
+    hi_told None p = by (get_or net.ranges.now (2 * i + 1) 0) p
+      where
+        by : (x : ℕ) → ¬ (1 ≤ x) → hi_of x ≡ None
+        by zero q = refl
+        by (suc x) q = absurd (q (omega arith))
+    hi_told (Some k) p =
+        let s : get_or net.ranges.now (2 * i + 1) 0 ≡ suc k = omega (arith, p.0, p.1) in
+        (ap hi_of s, omega (arith, fits.hi_fits, hi_number_of (get_or net.ranges.now (2 * i + 1) 0)))
 
-  -- within the limits the bounds decide
-  pub network_is : Limits m n ends ranges → bounds_fit n (bounds_in m ends ranges) ≡ network_fits m n ends ranges
-  unfolding network_fits
-  network_is l =
-      let a : T tests₂ = yes_and (leb m 12_288) (leb (2 * m) (length ends)) (le→leb m 12_288 l.few_bounds) (le→leb (2 * m) (length ends) l.ends_long) in
-      let b : T tests₃ = yes_and tests₂ (leb (2 * m) (length ranges)) a (le→leb (2 * m) (length ranges) l.ranges_long) in
-      let c : T tests₄ = yes_and tests₃ (leb 1 n) b (le→leb 1 n l.some_event) in
-      let d : T tests₅ = yes_and tests₄ (leb n 4096) c (le→leb n 4096 l.few_events) in
-      ap (λ (t : Bool). t && bounds_fit n (bounds_in m ends ranges)) (sym (passes tests₅ d))
+    -- the codes of its arcs
+    pub forward_code : Code (bounds_of net) (2 * i + 1)
+    forward_code = of_forward i place_there refl
 
-  -- where one thing is otherwise, it fails
-  pub network_fails : (Network m n ends ranges → ⊥) → false ≡ network_fits m n ends ranges
-  network_fails h = sym (fails (network_fits m n ends ranges) (λ t. h (network (passes (network_fits m n ends ranges) t))))
+    pub backward_code : (k : ℕ) → (bound_of net i).hi ≡ Some k → Code (bounds_of net) (2 * i + 2)
+    backward_code k e = of_backward i k place_there (ap (λ (b : Bound). b.hi) (bound_there no_bound) ∙ e) refl
 
--- ---- bounds that fit, one by one
-
-module _ (m n : ℕ) (ends ranges : List ℕ) where
-  abbrev bs : List Bound
-  bs = bounds_in m ends ranges
-
-  -- one that does not
-  pub bound_fails : (i : ℕ) → i < m → (Fitting n (bound_at i ends ranges) → ⊥) → false ≡ bounds_fit n bs
-  bound_fails i h f =
-      sym (fails (bounds_fit n bs) (λ t. f (fitting n (bound_at i ends ranges) (place_fits n m ends ranges i h (passes (bounds_fit n bs) t)))))
-
-  -- what the loop keeps: the bounds from i on decide
-  abbrev pub Left : ℕ → Type 0
-  Left i = bounds_fit n bs ≡ bounds_fit n (drop i bs)
-
-  -- a bound that fits leaves those after it
-  pub next_left : (i : ℕ) → i < m → Fitting n (bound_at i ends ranges) → Left i → Left (i + 1)
-  unfolding bounds_fit
-  next_left i h f c =
-      let b : Bound = bound_at i ends ranges in
-      let l : i < length bs = omega (arith, bounds_length m ends ranges) in
-      let e : bounds_fit n bs ≡ bounds_fit n (drop (suc i) bs) =
-      c ∙ ap (bounds_fit n) (drop-cons bs i b l ∙ ap (λ (x : Bound). x ∷ drop (suc i) bs) (bound_is m ends ranges i b h))
-      ∙ ap (λ (x : Bool). x && bounds_fit n (drop (suc i) bs)) (fitting_passes n b f)
-      in
-      rw (add-one i) e
-
-  -- after the last all fit
-  pub none_left : (i : ℕ) → m ≤ i → Left i → true ≡ bounds_fit n bs
-  unfolding bounds_fit
-  none_left i h c =
-      let l : length bs ≤ i = omega (arith, bounds_length m ends ranges) in
-      sym (c ∙ ap (bounds_fit n) (drop_of_length-le bs l))
-
-  -- where each fits
-  pub all_fit : ((i : ℕ) → i < m → Fitting n (bound_at i ends ranges)) → bounds_fit n bs ≡ true
-  all_fit f = from m 0 (omega arith) refl
-    where
-      from : (k i : ℕ) → k + i ≡ m → Left i → bounds_fit n bs ≡ true
-      from zero i e l = sym (none_left i (omega arith) l)
-      from (suc k) i e l = from k (i + 1) (omega arith) (next_left i (omega arith) (f i (omega arith)) l)
-
-  -- as where no event is greater than one that is there, and no number as great as 2^39
-  pub small_fit : (g : ℕ) → ((i : ℕ) → i < 2 * m → get_or ends i 0 ≤ g) → g < n → ((i : ℕ) → i < 2 * m → get_or ranges i 0 < 549_755_813_888) → bounds_fit n bs ≡ true
-  small_fit g e k r =
-      all_fit (λ i h. record {
-        from_in = omega (arith, k, e (2 * i) (omega arith));
-        to_in = omega (arith, k, e (2 * i + 1) (omega arith));
-        lo_fits = omega (arith, r (2 * i) (omega arith));
-        hi_fits = omega (arith, r (2 * i + 1) (omega arith), hi_number_of (get_or ranges (2 * i + 1) 0));
-      })
+-- a number in the second array is small, also where it is one more than a hi
+pub range_small : (net : Network) (c : ℕ) → c < 2 * net.bounds → get_or net.ranges.now c 0 ≤ 1_000_000_000_001
+range_small net c h =
+    by (c % 2) refl (omega arith)
+  where
+    by : (r : ℕ) → c % 2 ≡ r → r < 2 → get_or net.ranges.now c 0 ≤ 1_000_000_000_001
+    by zero e l =
+        let k : c / 2 < net.bounds = omega arith in
+        let q : 2 * (c / 2) ≡ c = omega arith in
+        subst (λ (j : ℕ). get_or net.ranges.now j 0 ≤ 1_000_000_000_001) q (omega (arith, (fits net (c / 2) k).lo_fits))
+    by (suc zero) e l =
+        let k : c / 2 < net.bounds = omega arith in
+        let q : 2 * (c / 2) + 1 ≡ c = omega arith in
+        subst (λ (j : ℕ). get_or net.ranges.now j 0 ≤ 1_000_000_000_001) q
+        (omega (arith, (fits net (c / 2) k).hi_fits, hi_number_of (get_or net.ranges.now (2 * (c / 2) + 1) 0)))
+    by (suc (suc r)) e l = absurd (omega arith)

@@ -1,4 +1,5 @@
 -- The parent of an event, by its code: the bound, the direction in which a chain follows it, where it leads and what it costs. Assumes nothing.
+use Rattle.std.specs.Prelude.{Option, None, Some}
 use Prim.Native.Nat.{ℕ, zero, suc, ◌+◌, ◌-◌, ◌*◌, ◌/◌, ◌%◌, ◌≤◌, ◌<◌}
 use native.Mathlib.Decide.{dec_lt}
 use native.Mathlib.Nat.{add-zero}
@@ -7,12 +8,11 @@ use native.Mathlib.Omega.{arith}
 use mathlib.Core.Path.{◌≡◌, refl, ap, ap₂, sym, ◌∙◌, subst}
 use mathlib.Core.Logic.{◌≢◌, by_cases}
 use mathlib.Core.Bool.{true, cond}
-use mathlib.Core.List.{List, [], ◌∷◌, ◌++◌, flat_map, Memᴰ}
-use mathlib.Core.Option.{Option, none, some}
+use mathlib.Core.List.{List, [], ◌∷◌, flat_map, Memᴰ}
 use lib.Dec.{eqb}
 use lib.IntN.{ℤ, pos, neg_ℤ, neg_ℤ-neg_ℤ}
-use lib.ListN.{length, get_or, take, length-append, get_or-append, get_or-eq_default, get_or-map}
-use lib.Seq.{get_or-append-add}
+use lib.ListN.{length, get_or, get_or-eq_default, get_or-map}
+use Rattle.std.proofs.lemmas.List.Concat.{get_or-flat_map}
 use Rattle.laws.proofs.Members.{to_flat, at_place}
 use Rattle.network.specs.Bounds.{Bound}
 use Rattle.network.specs.BoundArrays.{hi_number, bounds_in}
@@ -31,31 +31,17 @@ use Rattle.passes.proofs.BothWays.{forward_place, backward_place}
 
 -- ---- the arcs of a bound, by their places
 
--- each stands behind those of the bounds before it
-way_at : (bs : List Bound) (i : ℕ) → i < length bs → (j : ℕ) → j < length (ways (get_or bs i no_bound))
-    → get_or (flat_map ways bs) (ways_before bs i + j) no_arc ≡ get_or (ways (get_or bs i no_bound)) j no_arc
-unfolding flat_map ways_before
-way_at [] i h j k = absurd (omega arith)
-way_at (b ∷ bs) zero h j k =
-    let e : 0 + j ≡ j = omega arith in
-    ap (λ (p : ℕ). get_or (ways b ++ flat_map ways bs) p no_arc) e ∙ get_or-append (ways b) (flat_map ways bs) no_arc j k
-way_at (b ∷ bs) (suc i) h j k =
-    let e : ways_before (b ∷ bs) (suc i) + j ≡ length (ways b) + (ways_before bs i + j) = omega (arith, length-append (ways b) (flat_map ways (take i bs))) in
-    ap (λ (p : ℕ). get_or (flat_map ways (b ∷ bs)) p no_arc) e
-    ∙ get_or-append-add (ways b) (flat_map ways bs) (ways_before bs i + j) no_arc
-    ∙ way_at bs i (omega arith) j k
-
 -- forward comes first
 forward_at : (bs : List Bound) (i : ℕ) → i < length bs → get_or (flat_map ways bs) (ways_before bs i) no_arc ≡ forward (get_or bs i no_bound)
-unfolding ways
+unfolding ways ways_before flat_map no_arc
 forward_at bs i h =
-    ap (λ (p : ℕ). get_or (flat_map ways bs) p no_arc) (sym (add-zero (ways_before bs i))) ∙ way_at bs i h 0 (omega arith)
+    ap (λ (p : ℕ). get_or (flat_map ways bs) p no_arc) (sym (add-zero (ways_before bs i))) ∙ get_or-flat_map ways bs i 0 no_bound no_arc h (omega arith)
 
 -- then backward
-backward_at : (bs : List Bound) (i k : ℕ) → i < length bs → (get_or bs i no_bound).hi ≡ some k
+backward_at : (bs : List Bound) (i k : ℕ) → i < length bs → (get_or bs i no_bound).hi ≡ Some k
     → get_or (flat_map ways bs) (suc (ways_before bs i)) no_arc
     ≡ record { from = (get_or bs i no_bound).to; to = (get_or bs i no_bound).from; adds = neg_ℤ (pos k) }
-unfolding ways backward
+unfolding ways backward ways_before flat_map no_arc
 backward_at bs i k h e =
     let b : Bound = get_or bs i no_bound in
     let two : ways b ≡ forward b ∷ record { from = b.to; to = b.from; adds = neg_ℤ (pos k) } ∷ [] =
@@ -63,25 +49,23 @@ backward_at bs i k h e =
     in
     let one : 1 < length (ways b) = subst (λ (l : List Arc). 1 < length l) (sym two) (omega arith) in
     let next : suc (ways_before bs i) ≡ ways_before bs i + 1 = omega arith in
-    ap (λ (p : ℕ). get_or (flat_map ways bs) p no_arc) next ∙ way_at bs i h 1 one ∙ ap (λ (l : List Arc). get_or l 1 no_arc) two
+    ap (λ (p : ℕ). get_or (flat_map ways bs) p no_arc) next ∙ get_or-flat_map ways bs i 1 no_bound no_arc h one ∙ ap (λ (l : List Arc). get_or l 1 no_arc) two
 
 -- both are among the arcs
 forward_among : (bs : List Bound) (i : ℕ) → i < length bs → Memᴰ (get_or (flat_map ways bs) (ways_before bs i) no_arc) (flat_map ways bs)
 unfolding ways
 forward_among bs i h =
     let b : Bound = get_or bs i no_bound in
-    subst (λ (a : Arc). Memᴰ a (flat_map ways bs)) (sym (forward_at bs i h))
-    (to_flat ways bs b (forward b) (at_place bs i no_bound h) (Memᴰ.head refl))
+    rw (forward_at bs i h) (to_flat ways bs b (forward b) (at_place bs i no_bound h) (Memᴰ.head refl))
 
-backward_among : (bs : List Bound) (i k : ℕ) → i < length bs → (get_or bs i no_bound).hi ≡ some k
+backward_among : (bs : List Bound) (i k : ℕ) → i < length bs → (get_or bs i no_bound).hi ≡ Some k
     → Memᴰ (get_or (flat_map ways bs) (suc (ways_before bs i)) no_arc) (flat_map ways bs)
 unfolding ways backward
 backward_among bs i k h e =
     let b : Bound = get_or bs i no_bound in
     let a : Arc = record { from = b.to; to = b.from; adds = neg_ℤ (pos k) } in
-    subst (λ (z : Arc). Memᴰ z (flat_map ways bs)) (sym (backward_at bs i k h e))
-    (to_flat ways bs b a (at_place bs i no_bound h)
-    (Memᴰ.tail (subst (λ (o : Option ℕ). Memᴰ a (backward b o)) (sym e) (Memᴰ.head refl))))
+    let m : Memᴰ a (ways b) = rw e (Memᴰ.tail (Memᴰ.head refl)) in
+    rw (backward_at bs i k h e) (to_flat ways bs b a (at_place bs i no_bound h) m)
 
 -- ---- the parent of an event
 
@@ -105,12 +89,11 @@ module _ (m n : ℕ) (ends ranges codes : List ℕ) (x : ℕ) where
     pub code_is : get_or codes x 0 ≡ suc c
     pub within : c < 2 * m
     pub place : ℕ
-    pub place_is : get_or (parents_in (bounds_in m ends ranges) codes) x none ≡ some place
+    pub place_is : get_or (parents_in (bounds_in m ends ranges) codes) x None ≡ Some place
     pub begins : get_or ends c 0 ≡ (get_or (flat_map ways (bounds_in m ends ranges)) place no_arc).from
     pub ends_at : get_or ends (2 * (c / 2) + (1 - c % 2)) 0 ≡ (get_or (flat_map ways (bounds_in m ends ranges)) place no_arc).to
     pub of_arcs : Memᴰ (get_or (flat_map ways (bounds_in m ends ranges)) place no_arc) (flat_map ways (bounds_in m ends ranges))
-    pub to_below : get_or ends (2 * (c / 2) + 1) 0 < n
-    pub its_leg : leg (get_or (bounds_in m ends ranges) (c / 2) no_bound) (direction_of c) ≡ some (mirror (get_or (flat_map ways (bounds_in m ends ranges)) place no_arc))
+    pub its_leg : leg (get_or (bounds_in m ends ranges) (c / 2) no_bound) (direction_of c) ≡ Some (mirror (get_or (flat_map ways (bounds_in m ends ranges)) place no_arc))
     pub small : get_or ranges c 0 ≤ 1_000_000_000_001
     pub lower : c % 2 ≡ 0 → (get_or ranges c 0 ≤ 1_000_000_000_000) × ((get_or (flat_map ways (bounds_in m ends ranges)) place no_arc).adds ≡ pos (get_or ranges c 0))
     pub upper : c % 2 ≡ 1 → (1 ≤ get_or ranges c 0) × ((get_or (flat_map ways (bounds_in m ends ranges)) place no_arc).adds ≡ neg_ℤ (pos (get_or ranges c 0 - 1)))
@@ -119,7 +102,7 @@ module _ (m n : ℕ) (ends ranges codes : List ℕ) (x : ℕ) where
     abbrev bs : List Bound
     bs = bounds_in m ends ranges
 
-    place_of : get_or (parents_in bs codes) x none ≡ arc_place bs (get_or codes x 0)
+    place_of : get_or (parents_in bs codes) x None ≡ arc_place bs (get_or codes x 0)
     unfolding parents_in arc_place
     place_of = get_or-map (arc_place bs) codes x 0
 
@@ -144,22 +127,21 @@ module _ (m n : ℕ) (ends ranges codes : List ℕ) (x : ℕ) where
           begins = sym (ap (λ (y : Arc). y.from) a);
           ends_at = ap (λ (j : ℕ). get_or ends j 0) t ∙ sym (ap (λ (y : Arc). y.to) a);
           of_arcs = forward_among bs i l;
-          to_below = subst (λ (j : ℕ). get_or ends (2 * j + 1) 0 < n) (sym d) (fits_at i h).to_in;
           its_leg =
               ap₂ leg (ap (λ (j : ℕ). get_or bs j no_bound) d ∙ b) (ap (λ (j : ℕ). cond (eqb j 0) back onward) r)
-              ∙ ap (λ (y : Arc). some (mirror y)) (sym a);
+              ∙ ap (λ (y : Arc). Some (mirror y)) (sym a);
           small = omega (arith, (fits_at i h).lo_fits);
           lower = λ q. ((fits_at i h).lo_fits, ap (λ (y : Arc). y.adds) a);
           upper = λ q. absurd (omega arith);
         }
 
     -- and backward
-    backward_parent : (i k : ℕ) → i < m → (get_or bs i no_bound).hi ≡ some k → get_or codes x 0 ≡ 2 * i + 2 → Parent (2 * i + 1)
+    backward_parent : (i k : ℕ) → i < m → (get_or bs i no_bound).hi ≡ Some k → get_or codes x 0 ≡ 2 * i + 2 → Parent (2 * i + 1)
     unfolding leg onward_leg hi_number
     backward_parent i k h hi e =
         let l : i < length bs = omega (arith, bounds_length m ends ranges) in
         let b : get_or bs i no_bound ≡ bound_at i ends ranges = bound_is m ends ranges i no_bound h in
-        let top : (bound_at i ends ranges).hi ≡ some k = ap (λ (y : Bound). y.hi) (sym b) ∙ hi in
+        let top : (bound_at i ends ranges).hi ≡ Some k = ap (λ (y : Bound). y.hi) (sym b) ∙ hi in
         let g : get_or ranges (2 * i + 1) 0 ≡ suc k = sym (hi_number_of (get_or ranges (2 * i + 1) 0)) ∙ ap hi_number top in
         let arc : Arc = record { from = (bound_at i ends ranges).to; to = (bound_at i ends ranges).from; adds = neg_ℤ (pos k) } in
         let a : get_or (flat_map ways bs) (suc (ways_before bs i)) no_arc ≡ arc =
@@ -178,12 +160,11 @@ module _ (m n : ℕ) (ends ranges codes : List ℕ) (x : ℕ) where
           begins = sym (ap (λ (y : Arc). y.from) a);
           ends_at = ap (λ (j : ℕ). get_or ends j 0) t ∙ sym (ap (λ (y : Arc). y.to) a);
           of_arcs = backward_among bs i k l hi;
-          to_below = subst (λ (j : ℕ). get_or ends (2 * j + 1) 0 < n) (sym d) (fits_at i h).to_in;
           its_leg =
               ap₂ leg (ap (λ (j : ℕ). get_or bs j no_bound) d ∙ b) (ap (λ (j : ℕ). cond (eqb j 0) back onward) r)
               ∙ ap (onward_leg (bound_at i ends ranges)) top
-              ∙ ap (λ (z : ℤ). some (record { begins = (bound_at i ends ranges).from; ends = (bound_at i ends ranges).to; costs = z })) (sym (neg_ℤ-neg_ℤ (pos k)))
-              ∙ ap (λ (y : Arc). some (mirror y)) (sym a);
+              ∙ ap (λ (z : ℤ). Some (record { begins = (bound_at i ends ranges).from; ends = (bound_at i ends ranges).to; costs = z })) (sym (neg_ℤ-neg_ℤ (pos k)))
+              ∙ ap (λ (y : Arc). Some (mirror y)) (sym a);
           small = omega (arith, (fits_at i h).hi_fits, hi_number_of (get_or ranges (2 * i + 1) 0));
           lower = λ q. absurd (omega arith);
           upper = λ q. (omega arith, ap (λ (y : Arc). y.adds) a ∙ ap (λ (j : ℕ). neg_ℤ (pos j)) w);
@@ -203,7 +184,7 @@ module _ (m n : ℕ) (ends ranges codes : List ℕ) (x : ℕ) where
             subst Parent c (backward_parent i k (omega (arith, bounds_length m ends ranges)) hi e)
 
     -- an event whose parent is not missing has one
-    pub parent : Coded bs codes → get_or (parents_in bs codes) x none ≢ none → Parent (get_or codes x 0 - 1)
+    pub parent : Coded bs codes → get_or (parents_in bs codes) x None ≢ None → Parent (get_or codes x 0 - 1)
     unfolding arc_place
     parent coded h = coded_parent coded (λ e. h (place_of ∙ ap (arc_place bs) e))
 
@@ -219,11 +200,11 @@ module _ (arcs : List Arc) (n : ℕ) (ps : Parents) (some_event : 0 < n) (betwee
 
   pub before_below : (u : ℕ) → u < n → before arcs ps u < n
   unfolding before
-  before_below u h = by (get_or ps u none)
+  before_below u h = by (get_or ps u None)
     where
-      by : (o : Option ℕ) → elim o [ none ↦ u | some i ↦ (get_or arcs i no_arc).from ] < n
-      by none = h
-      by (some i) = begins_below i
+      by : (o : Option ℕ) → elim o [ None ↦ u | Some i ↦ (get_or arcs i no_arc).from ] < n
+      by None = h
+      by (Some i) = begins_below i
 
   -- they stay among the events
   pub steps_below : (j v : ℕ) → v < n → steps_back arcs ps j v < n

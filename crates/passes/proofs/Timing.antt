@@ -1,19 +1,19 @@
 -- Times of sums, and times written one behind the other. Assumes nothing.
-use Prim.Native.Nat.{ℕ, zero, suc, ◌+◌, ◌*◌, ◌≤◌, ◌<◌}
+use Rattle.std.specs.Prelude.{None, Some, Result, Ok, Err}
+use Rattle.std.specs.Result.{OkIff, result_unwrap_or}
+use Rattle.std.specs.Int.{FitsUnsignedBits}
+use Prim.Native.Nat.{ℕ, ◌+◌, ◌*◌, ◌≤◌, ◌<◌}
 use native.Mathlib.Numerals.{add-one}
 use native.Mathlib.Omega.{arith}
-use mathlib.Core.Path.{◌≡◌, refl, ap, ap₂, sym, ◌∙◌, subst}
+use mathlib.Core.Path.{◌≡◌, refl, ap, ap₂, sym, ◌∙◌}
 use mathlib.Core.Bool.{Bool, true, false, cond}
 use mathlib.Core.List.{List, [], ◌∷◌, ◌++◌, map}
-use mathlib.Core.Option.{none, some}
-use lib.Dec.{T, eqb}
+use lib.Dec.{eqb}
 use lib.IntN.{ℤ, pos, negsuc, nat_abs}
-use lib.Signed.{lt_z, non_neg}
 use lib.ListN.{length, get_or, take, length-map}
 use lib.Seq.{take-suc, take_all, length-take-le}
 use mir.Syntax.{w64}
-use mir.Val.{Fits, SFits}
-use Rattle.laws.proofs.Signed.{fail→ℕ}
+use mir.Val.{SFits}
 use Rattle.words.specs.Words.{words, with_word, written}
 use Rattle.words.proofs.Storing.{word_behind}
 use Rattle.walks.specs.Passes.{same_number}
@@ -23,25 +23,15 @@ use Rattle.passes.proofs.Marks.{map_behind}
 
 -- ---- the time of a sum
 
--- a sum above 0 is a number as it is
-pub above_fits : (z : ℤ) → lt_z (pos 0) z ≡ true → SFits w64 z → T (non_neg z) × Fits w64 (nat_abs z)
-above_fits (pos n) e f = (tt, omega (arith, f.sfits))
-above_fits (negsuc n) e f = absurd (subst T (sym e) tt)
-
--- it is its time
-pub time_above : (z : ℤ) → lt_z (pos 0) z ≡ true → nat_abs z ≡ time (sum_at z)
+-- one that is not below 0 is its time as it is, and any other has the time 0, as the mark has
+pub time_read : (z : ℤ) → SFits w64 z → {E : Type 0} (r : Result ℕ E) → OkIff r (FitsUnsignedBits 64 z) (nat_abs z) → result_unwrap_or r 0 ≡ time (sum_at z)
 unfolding sum_at same_number time
-time_above (pos n) e = refl
-time_above (negsuc n) e = absurd (subst T (sym e) tt)
-
--- any other has the time 0, and so has the mark
-pub time_none : (z : ℤ) → lt_z (pos 0) z ≡ false → 0 ≡ time (sum_at z)
-unfolding sum_at same_number time
-time_none (pos zero) e = refl
-time_none (pos (suc n)) e = absurd (omega (arith, fail→ℕ (pos 0) (pos (suc n)) e))
-time_none (negsuc n) e = by (eqb n 4_611_686_018_427_387_903)
+time_read (pos n) f (Ok x) h = h.1
+time_read (pos n) f (Err e) h = absurd (let fits : n < 18_446_744_073_709_551_616 = omega (arith, f.sfits) in h fits)
+time_read (negsuc n) f (Ok x) h = absurd h.0
+time_read (negsuc n) f (Err e) h = by (eqb n 4_611_686_018_427_387_903)
   where
-    by : (b : Bool) → 0 ≡ time (cond b none (some (negsuc n)))
+    by : (b : Bool) → 0 ≡ time (cond b None (Some (negsuc n)))
     by true = refl
     by false = refl
 

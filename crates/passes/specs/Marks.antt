@@ -1,17 +1,15 @@
 -- Sums and parents as the passes keep them in arrays.
 -- Assumes nothing.
-use Rattle.std.specs.Prelude.{ℕ, zero, suc, ◌+◌, ◌*◌, ◌/◌, ◌%◌, ◌≤◌, ◌<◌, ◌≡◌, ◌≢◌, cond, T, ℤ, pos, negsuc, ◌<ℤ◌, length, get_or, take}
+use Rattle.std.specs.Prelude.{ℕ, zero, suc, ◌+◌, ◌*◌, ◌/◌, ◌%◌, ◌≤◌, ◌<◌, ◌≡◌, ◌≢◌, cond, T, ℤ, pos, negsuc, ◌<ℤ◌, length, get_or, take, Option, None, Some}
 use mathlib.Core.List.{List, map, flat_map, Memᴰ}
-use Rattle.std.proofs.Math.Option.{Option, none, some}
 use Rattle.words.specs.Words.{words, written}
 use Rattle.network.specs.Bounds.{Bound}
 use Rattle.walks.specs.Walks.{Arc}
-use Rattle.walks.specs.Passes.{Sums, same_number, settled}
-use Rattle.walks.specs.Parents.{Parents, no_arc, steps_back, trail, Trapped}
+use Rattle.walks.specs.Passes.{Sums, raise_all, same_number, settled}
+use Rattle.walks.specs.Parents.{Parents, adopt_all, no_arc, steps_back, trail, Trapped}
 use Rattle.walks.specs.Solutions.{total}
 use Rattle.schedule.specs.Timetable.{ways}
 use Rattle.schedule.specs.Chain.{Item, direction_number, Leg, cost, closed_below_0}
-use Rattle.passes.specs.declared.Run.{Run}
 use Rattle.passes.specs.declared.Found.{Found}
 use Rattle.passes.specs.Solving.{Pick, no_bound, picked_legs, picked}
 
@@ -21,7 +19,7 @@ low = negsuc 4_611_686_018_427_387_903
 
 -- a sum, or none
 unfoldable pub sum_at : ℤ → Option ℤ
-sum_at x = cond (same_number x low) none (some x)
+sum_at x = cond (same_number x low) None (Some x)
 
 -- the sums in an array
 unfoldable pub sums_in : List ℤ → Sums
@@ -33,8 +31,8 @@ ways_before bs i = length (flat_map ways (take i bs))
 
 -- the place of an arc by its code: 0 is none, 2 i + 1 the bound at place i followed forward, 2 i + 2 backward
 unfoldable pub arc_place : List Bound → ℕ → Option ℕ
-arc_place bs zero = none
-arc_place bs (suc c) = some (ways_before bs (c / 2) + c % 2)
+arc_place bs zero = None
+arc_place bs (suc c) = Some (ways_before bs (c / 2) + c % 2)
 
 -- the parents in an array
 unfoldable pub parents_in : List Bound → List ℕ → Parents
@@ -44,26 +42,24 @@ parents_in bs = map (arc_place bs)
 pub data Code (bs : List Bound) (code : ℕ) : Type 0 where
   of_none : code ≡ 0 → Code bs code
   of_forward : (i : ℕ) → i < length bs → code ≡ 2 * i + 1 → Code bs code
-  of_backward : (i h : ℕ) → i < length bs → (get_or bs i no_bound).hi ≡ some h → code ≡ 2 * i + 2 → Code bs code
+  of_backward : (i h : ℕ) → i < length bs → (get_or bs i no_bound).hi ≡ Some h → code ≡ 2 * i + 2 → Code bs code
 
 -- an array has codes of these bounds alone
 abbrev pub Coded : List Bound → List ℕ → Type 0
 Coded bs codes = (v : ℕ) → Code bs (get_or codes v 0)
 
--- what the passes come to over bounds among n events, with the sums and the parents that they leave: the number of passes, or an event that is raised for
--- ever, whose parents lead back to a cycle that gains
-pub data Ran (bs : List Bound) (n : ℕ) (old : List ℤ) (parents : List ℕ) : Run → Type 0 where
-  settles : (k : ℕ) → settled (flat_map ways bs) n ≡ some (record { passes = k; sums = sums_in old }) → Ran bs n old parents (Run.Settled k)
-  raises_on : (v : ℕ) → settled (flat_map ways bs) n ≡ none → v < n
-      → Trapped (flat_map ways bs) n (parents_in bs parents) v → Coded bs parents
-      → Ran bs n old parents (Run.Raised v)
+-- arcs followed in their turn, the first of them at a place, from what `old` has: the sums and the parents that this leaves
+pub record Followed (bs : List Bound) (arcs : List Arc) (place : ℕ) (old new new' : List ℤ) (parents parents' : List ℕ) : Type 0 where
+  pub sums : sums_in new' ≡ raise_all arcs (sums_in old) (sums_in new)
+  pub adopted : parents_in bs parents' ≡ adopt_all arcs place (sums_in old) (sums_in new) (parents_in bs parents)
+  pub coded : Coded bs parents → Coded bs parents'
 
 -- a chain of bounds found, of this length and cost, and written to the front of two slices: which is picked is free
 pub record ChainFound (own : ℕ) (bs : List Bound) (long : ℕ) (costs : ℤ) (numbers directions numbers' directions' : List ℕ) : Type 0 where
   pub picks : List Pick
   pub legs : List Leg
-  pub legs_are : picked_legs bs picks ≡ some legs
-  pub closed : T (closed_below_0 (some legs))
+  pub legs_are : picked_legs bs picks ≡ Some legs
+  pub closed : T (closed_below_0 (Some legs))
   pub long_is : long ≡ length picks
   pub costs_are : costs ≡ cost legs
   pub numbers_are : numbers' ≡ written (words 2 (map (λ (i : Item). i.number) (map (picked own bs) picks))) numbers
@@ -72,7 +68,7 @@ pub record ChainFound (own : ℕ) (bs : List Bound) (long : ℕ) (costs : ℤ) (
 -- an event is led back: its parent is there, is one of the arcs, and ends at it
 pub record Led (arcs : List Arc) (ps : Parents) (x : ℕ) : Type 0 where
   pub place : ℕ
-  pub place_is : get_or ps x none ≡ some place
+  pub place_is : get_or ps x None ≡ Some place
   pub of_arcs : Memᴰ (get_or arcs place no_arc) arcs
   pub ends : (get_or arcs place no_arc).to ≡ x
 
@@ -92,17 +88,16 @@ pub record Gaining (arcs : List Arc) (n : ℕ) (ps : Parents) (x : ℕ) : Type 0
 
 -- x lies on a cycle of parents that gains, as many steps back from an event as there are events, and the sums grow for ever
 pub record CycleFound (bs : List Bound) (parents : List ℕ) (x : ℕ) : Type 0 where
-  pub unsettled : settled (flat_map ways bs) (length parents) ≡ none
+  pub unsettled : settled (flat_map ways bs) (length parents) ≡ None
   pub event : ℕ
   pub below : event < length parents
   pub trapped : Trapped (flat_map ways bs) (length parents) (parents_in bs parents) event
   pub starts : x ≡ steps_back (flat_map ways bs) (parents_in bs parents) (length parents) event
 
--- what the fast way comes to, with the sums and the parents that it leaves: what the passes come to, or a cycle of parents, or nothing
+-- what passes or sweeps come to, with the sums and the parents that they leave: the number of passes, or an event on a cycle of parents that gains
 pub data Finds (bs : List Bound) (n : ℕ) (sums : List ℤ) (parents : List ℕ) : Found → Type 0 where
-  finds_times : (k : ℕ) → settled (flat_map ways bs) n ≡ some (record { passes = k; sums = sums_in sums }) → Finds bs n sums parents (Found.Settled k)
+  finds_times : (k : ℕ) → settled (flat_map ways bs) n ≡ Some (record { passes = k; sums = sums_in sums }) → Finds bs n sums parents (Found.Settled k)
   finds_cycle : (x : ℕ) → length parents ≡ n → Coded bs parents → CycleFound bs parents x → Finds bs n sums parents (Found.Looped x)
-  finds_nothing : Finds bs n sums parents Found.Nothing
 
 -- Names every definition of this module, for a proof that computes with them all.
 unfoldable pub open_marks : Unit {0}

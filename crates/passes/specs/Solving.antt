@@ -1,8 +1,7 @@
 -- Passes over bounds in arrays: what the code that finds times or a chain answers and writes, on all input.
 -- Assumes nothing.
-use Rattle.std.specs.Prelude.{ℕ, zero, suc, ◌+◌, ◌*◌, ◌≡◌, Bool, true, false, ◌&&◌, cond, T, leb, ltb, length, get_or}
+use Rattle.std.specs.Prelude.{ℕ, zero, suc, ◌+◌, ◌*◌, ◌≡◌, Bool, true, false, ◌&&◌, cond, T, leb, ltb, length, get_or, Option, None, Some}
 use mathlib.Core.List.{List, [], ◌∷◌, map, flat_map}
-use Rattle.std.proofs.Math.Option.{Option, none, some}
 use Rattle.network.specs.Bounds.{Bound}
 use Rattle.network.specs.BoundArrays.{hi_number, bounds_in}
 use Rattle.walks.specs.Passes.{settled}
@@ -37,22 +36,22 @@ pub record Pick : Type 0 where
 
 -- the leg of the bound at a place, if there is one there
 unfoldable pub leg_at : List Bound → ℕ → Direction → Option Leg
-leg_at [] i d = none
+leg_at [] i d = None
 leg_at (b ∷ bs) zero d = leg b d
 leg_at (b ∷ bs) (suc i) d = leg_at bs i d
 
 -- the legs of picks, if each has one
 unfoldable pub picked_legs : List Bound → List Pick → Option (List Leg)
-picked_legs bs [] = some []
+picked_legs bs [] = Some []
 picked_legs bs (i ∷ is) =
     elim (leg_at bs i.place i.direction) [
-      | none ↦ none
-      | some l ↦ elim (picked_legs bs is) [ none ↦ none | some ls ↦ some (l ∷ ls) ]
+      | None ↦ None
+      | Some l ↦ elim (picked_legs bs is) [ None ↦ None | Some ls ↦ Some (l ∷ ls) ]
     ]
 
 -- stands for the bound at a place past the list: none is picked there
 unfoldable pub no_bound : Bound
-no_bound = record { from = 0; to = 0; lo = 0; hi = none }
+no_bound = record { from = 0; to = 0; lo = 0; hi = None }
 
 -- the number of a bound: the first `own` "are numbered from 0", of the others "each is numbered 10,000 + e"
 unfoldable pub number_of : ℕ → List Bound → ℕ → ℕ
@@ -65,20 +64,20 @@ picked own bs i = record { number = number_of own bs i.place; direction = i.dire
 -- the bounds bs among n events, the first `own` of them numbered from 0, and the slices lent: the answer, and the slices as they are left.
 -- Which closed chain of bounds is picked is free, and nothing else
 pub data Solves (own n : ℕ) (bs : List Bound) (l : Lent) : Solved → Lent → Type 0 where
-  timed : (t : Timetable) → times_of bs n ≡ some t → Solves own n bs l (Solved.Times t.passes) (times_written t l)
-  cycle : times_of bs n ≡ none → (is : List Pick) (ls : List Leg) → picked_legs bs is ≡ some ls → T (closed_below_0 (some ls))
-      → Solves own n bs l (Solved.Cycle (length is) (cost ls)) (chain_written (map (picked own bs) is) l)
+  timed : (t : Timetable) → times_of bs n ≡ Some t → Solves own n bs l (Solved.Times t.passes) (times_written t l)
+  cycle : times_of bs n ≡ None → (is : List Pick) (ls : List Leg) → picked_legs bs is ≡ Some ls → T (closed_below_0 (Some ls))
+      → Solves own n bs l (Solved.Cycle (record { length = length is; cost = cost ls })) (chain_written (map (picked own bs) is) l)
 
 -- the same, or nothing is found, and nothing written
-pub data Searched (own n : ℕ) (bs : List Bound) (l : Lent) : Solved → Lent → Type 0 where
-  search_solves : (a : Solved) (l' : Lent) → Solves own n bs l a l' → Searched own n bs l a l'
-  search_nothing : Searched own n bs l Solved.Unfit l
+pub data Searched (own n : ℕ) (bs : List Bound) (l : Lent) : Option Solved → Lent → Type 0 where
+  search_solves : (a : Solved) (l' : Lent) → Solves own n bs l a l' → Searched own n bs l (Some a) l'
+  search_nothing : Searched own n bs l None l
 
 -- the answer, of arrays and slices: where they are no network, or short, nothing is written
-pub data Solving (own m n : ℕ) (ends ranges : List ℕ) (l : Lent) : Solved → Lent → Type 0 where
-  unfit : (network_fits m n ends ranges && long_enough l) ≡ false → Solving own m n ends ranges l Solved.Unfit l
+pub data Solving (own m n : ℕ) (ends ranges : List ℕ) (l : Lent) : Option Solved → Lent → Type 0 where
+  unfit : (network_fits m n ends ranges && long_enough l) ≡ false → Solving own m n ends ranges l None l
   solved : (network_fits m n ends ranges && long_enough l) ≡ true → (a : Solved) (l' : Lent) → Solves own n (bounds_in m ends ranges) l a l'
-      → Solving own m n ends ranges l a l'
+      → Solving own m n ends ranges l (Some a) l'
 
 -- Names every definition of this module, for a proof that computes with them all.
 unfoldable pub open_solving : Unit {0}

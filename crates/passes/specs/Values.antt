@@ -1,6 +1,6 @@
 -- Values in an array, as the certificate of `walks` speaks of them: found in any way, then checked.
 -- Assumes nothing.
-use Rattle.std.specs.Prelude.{ℕ, ◌≤◌, ◌<◌, ◌≡◌, ◌≢◌, ◌⊎◌, ℤ, pos, negsuc, ◌+ℤ◌, ◌*ℤ◌, ◌≤ℤ◌, ◌<ℤ◌, length, get_or}
+use Rattle.std.specs.Prelude.{ℕ, Bool, true, false, ◌≤◌, ◌<◌, ◌≡◌, ◌⊎◌, ℤ, pos, negsuc, ◌+ℤ◌, ◌*ℤ◌, ◌≤ℤ◌, ◌<ℤ◌, length, get_or}
 use mathlib.Core.List.{List, Memᴰ}
 use Rattle.laws.proofs.Signed.{Within}
 use Rattle.walks.specs.Walks.{Arc}
@@ -19,8 +19,8 @@ abbrev pub Allowed : List Arc → List ℤ → Type 0
 Allowed arcs values = (a : Arc) → Memᴰ a arcs → (value values a.from +ℤ (weighted a).adds) ≤ℤ value values a.to
 
 -- an event that is marked now was marked before, or an arc gives it its value exactly
-abbrev pub Marks : List Arc → List ℤ → List ℕ → List ℕ → Type 0
-Marks arcs values marks marks' = (v : ℕ) → get_or marks' v 0 ≢ 0 → (get_or marks v 0 ≢ 0) ⊎ Tight arcs (value values) v
+abbrev pub Marks : List Arc → List ℤ → List Bool → List Bool → Type 0
+Marks arcs values marks marks' = (v : ℕ) → get_or marks' v false ≡ true → (get_or marks v false ≡ true) ⊎ Tight arcs (value values) v
 
 -- values that pass the checks, of times that are not below 0
 pub record Certified (arcs : List Arc) (values : List ℤ) : Type 0 where

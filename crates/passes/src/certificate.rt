@@ -1,138 +1,106 @@
 // The certificate: values are checked against every arc, and then believed, however they were found. They say the times and the number of passes.
-ghost use Rattle.std.specs.Prelude.{◌≡◌, ◌≢◌, ◌⊎◌, true, ℕ, ◌+◌, ◌*◌, ◌≤◌, ◌<◌, length, get_or, pos, negsuc, nat_abs, ◌+ℤ◌, ◌≤ℤ◌, ◌<ℤ◌};
+// A number is narrowed by `as` where it fits: a `try_from` would have an error that cannot come.
+ghost use Rattle.std.specs.Prelude.{◌≡◌, false, true, ℕ, [], ◌∷◌, ◌+◌, ◌*◌, ◌≤◌, ◌<◌, length, get_or, pos, negsuc, nat_abs, ◌+ℤ◌, ◌≤ℤ◌, ◌<ℤ◌};
 ghost use mathlib.Core.List.{flat_map};
 ghost use Rattle.laws.proofs.Signed.{Within};
-ghost use Rattle.network.specs.BoundArrays.{bounds_in};
 ghost use Rattle.schedule.specs.Timetable.{ways};
-ghost use Rattle.passes.specs.Solving.{bound_fits, bounds_fit};
-ghost use Rattle.passes.specs.Places.{bound_at};
 ghost use Rattle.passes.specs.Values.{value, InRange, Allowed, Marks, Certified, Rounded};
+ghost use Rattle.walks.specs.Certificate.{weighted};
+ghost use Rattle.passes.specs.Networks.{bounds_of, bound_of};
+ghost use Rattle.passes.specs.Arcs.{arc_of};
 
-use crate::weights;
+use crate::arc::Arc;
+use crate::arrays::Network;
 
-// Whether the values allow an arc from u to v with this weight; where it gives v its value exactly, v is marked.
-fn check_arc(values: &[i64], marks: &mut [u8], u: usize, v: usize, weight: i64) -> bool
-    requires u_in_bounds { (u < length values.now) × (v < length values.now) × (v < length marks.old) }
-    requires in_range { InRange values.now × Within 8192000000000001 weight }
-    ensures allowed { result ≡ true → (value values.now u +ℤ weight) ≤ℤ value values.now v }
-    ensures marked { (x : ℕ) → get_or marks.new x 0 ≢ 0
-        → (get_or marks.old x 0 ≢ 0) ⊎ ((x ≡ v) × (value values.now v ≡ value values.now u +ℤ weight)) }
+// Whether the values allow an arc; where it gives the event where it ends its value exactly, that is marked.
+fn check_arc(values: &[i64], marks: &mut [bool], arc: Arc) -> bool
+    requires inside { (arc.from < length values.now) × (arc.to < length values.now) × (arc.to < length marks.old) }
+    requires in_range { InRange values.now }
+    ensures allowed { result ≡ true → (value values.now arc.from +ℤ (weighted (arc_of arc)).adds) ≤ℤ value values.now arc.to }
+    ensures marked { Marks (arc_of arc ∷ []) values.now marks.old marks.new }
 {
-    let sum = weights::value_along(values, u, weight);
-    let at = values[v];
+    let sum = arc.value_along(values);
+    let at = values[arc.to];
     if at < sum {
         return false;
     }
     if sum < at {
         return true;
     }
-    marks[v] = 1;
+    marks[arc.to] = true;
     true
 }
 
 // The same for the bound at place i, both ways.
-fn check_bound(ends: &[u16], ranges: &[u64], i: usize, values: &[i64], marks: &mut [u8]) -> bool
-    requires i_bound { (i < 12288) × (2 * i + 1 < length ends.now) × (2 * i + 1 < length ranges.now) }
-    requires ranges_value { (bound_fits (length values.now) (bound_at i ends.now ranges.now) ≡ true) × (length marks.old ≡ length values.now) × InRange values.now }
-    ensures allowed { result ≡ true → Allowed (ways (bound_at i ends.now ranges.now)) values.now }
-    ensures marked { Marks (ways (bound_at i ends.now ranges.now)) values.now marks.old marks.new }
+fn check_bound(net: &Network, i: usize, values: &[i64], marks: &mut [bool]) -> bool
+    requires place { i < net.now.bounds }
+    requires values { (length values.now ≡ net.now.events) × (length marks.old ≡ net.now.events) × InRange values.now }
+    ensures allowed { result ≡ true → Allowed (ways (bound_of net.now i)) values.now }
+    ensures marked { Marks (ways (bound_of net.now i)) values.now marks.old marks.new }
 {
-    let u = ends[2 * i] as usize;
-    let v = ends[2 * i + 1] as usize;
-    let lo = ranges[2 * i];
-    let above = ranges[2 * i + 1];
-    if !check_arc(values, marks, u, v, weights::forward_weight(lo)) {
+    let arc = net.forward(i);
+    if !check_arc(values, marks, arc) {
         return false;
     }
-    if above == 0 {
-        return true;
+    match net.backward(i, arc) {
+        None => true,
+        Some(back) => check_arc(values, marks, back),
     }
-    check_arc(values, marks, v, u, weights::backward_weight(above))
 }
 
 // Whether the values allow every bound; the events to which one is exact are marked.
-fn check_bounds(
-    ends: &[u16],
-    ranges: &[u64],
-    bounds: usize,
-    values: &[i64],
-    marks: &mut [u8],
-) -> bool
-    requires bounds_bound { (bounds ≤ 12288) × (2 * bounds ≤ length ends.now) × (2 * bounds ≤ length ranges.now) }
-    requires ranges_value { (bounds_fit (length values.now) (bounds_in bounds ends.now ranges.now) ≡ true) × (length marks.old ≡ length values.now) × InRange values.now }
-    ensures allowed { result ≡ true → Allowed (flat_map ways (bounds_in bounds ends.now ranges.now)) values.now }
-    ensures marked { Marks (flat_map ways (bounds_in bounds ends.now ranges.now)) values.now marks.old marks.new }
+fn check_bounds(net: &Network, values: &[i64], marks: &mut [bool]) -> bool
+    requires { (length values.now ≡ net.now.events) × (length marks.old ≡ net.now.events) × InRange values.now }
+    ensures allowed { result ≡ true → Allowed (flat_map ways (bounds_of net.now)) values.now }
+    ensures marked { Marks (flat_map ways (bounds_of net.now)) values.now marks.old marks.new }
 {
-    let mut i = 0;
-    while i < bounds {
-        if !check_bound(ends, ranges, i, values, marks) {
+    // a `for`: of a closure that changes the marks an `all` says nothing
+    for i in 0..net.bounds {
+        if !check_bound(net, i, values, marks) {
             return false;
         }
-        i += 1;
     }
     true
 }
 
 // Whether the start has the value 0, and every other event is marked and has a value whose time is not below 0.
-fn check_events(values: &[i64], marks: &[u8]) -> bool
-    requires { (1 ≤ length values.now) × (length values.now ≤ 4096) × (length marks.now ≡ length values.now) }
+fn check_events(values: &[i64], marks: &[bool]) -> bool
+    requires { (1 ≤ length values.now) × (length marks.now ≡ length values.now) }
     ensures { result ≡ true → (value values.now 0 ≡ pos 0)
-        × ((v : ℕ) → 0 < v → v < length values.now → (negsuc 8191 <ℤ value values.now v) × (get_or marks.now v 0 ≢ 0)) }
+        × ((v : ℕ) → 0 < v → v < length values.now → (negsuc 8191 <ℤ value values.now v) × (get_or marks.now v false ≡ true)) }
 {
     if values[0] != 0 {
         return false;
     }
-    let mut v = 1;
-    while v < values.len() {
-        if values[v] < -8191 {
+    // a `for`: as `all` the proof didn't close
+    for v in 1..values.len() {
+        if values[v] < -8191 || !marks[v] {
             return false;
         }
-        if marks[v] == 0 {
-            return false;
-        }
-        v += 1;
     }
     true
 }
 
-// Both checks, with no event marked yet.
-fn check(ends: &[u16], ranges: &[u64], bounds: usize, values: &[i64], marks: &mut [u8]) -> bool
-    requires bounds_bound { (bounds ≤ 12288) × (2 * bounds ≤ length ends.now) × (2 * bounds ≤ length ranges.now) }
-    requires ranges_value { (bounds_fit (length values.now) (bounds_in bounds ends.now ranges.now) ≡ true) × (length marks.old ≡ length values.now) × InRange values.now }
-    requires in_bounds { (1 ≤ length values.now) × (length values.now ≤ 4096) × ((v : ℕ) → get_or marks.old v 0 ≡ 0) }
-    ensures { result ≡ true → Certified (flat_map ways (bounds_in bounds ends.now ranges.now)) values.now }
+// Whether the values of at most N events are a certificate. No event is marked yet.
+fn check<const N: usize>(net: &Network, values: &[i64]) -> bool
+    requires room { (net.now.events ≤ N) × (N ≤ 4096) }
+    requires values { (length values.now ≡ net.now.events) × InRange values.now }
+    ensures { result ≡ true → Certified (flat_map ways (bounds_of net.now)) values.now }
 {
-    if !check_bounds(ends, ranges, bounds, values, marks) {
-        return false;
-    }
-    check_events(values, marks)
+    let mut marks = [false; N];
+    let marks = &mut marks[..net.events];
+    check_bounds(net, values, marks) && check_events(values, marks)
 }
 
-// Whether the values of at most 256 events are a certificate, with as few marks, which take less time to clear.
-fn check_few(ends: &[u16], ranges: &[u64], bounds: usize, values: &[i64]) -> bool
-    requires bounds_bound { (bounds ≤ 12288) × (2 * bounds ≤ length ends.now) × (2 * bounds ≤ length ranges.now) }
-    requires ranges_value { (bounds_fit (length values.now) (bounds_in bounds ends.now ranges.now) ≡ true) × InRange values.now }
-    requires in_bounds { (1 ≤ length values.now) × (length values.now ≤ 256) }
-    ensures { result ≡ true → Certified (flat_map ways (bounds_in bounds ends.now ranges.now)) values.now }
+// Whether values are a certificate. Few marks take less time to clear.
+pub(crate) fn is_certificate(net: &Network, values: &[i64]) -> bool
+    requires { (length values.now ≡ net.now.events) × InRange values.now }
+    ensures { result ≡ true → Certified (flat_map ways (bounds_of net.now)) values.now }
 {
-    let mut marks = [0u8; 256];
-    let n = values.len();
-    check(ends, ranges, bounds, values, &mut marks[..n])
-}
-
-// Whether values are a certificate.
-pub(crate) fn is_certificate(ends: &[u16], ranges: &[u64], bounds: usize, values: &[i64]) -> bool
-    requires bounds_bound { (bounds ≤ 12288) × (2 * bounds ≤ length ends.now) × (2 * bounds ≤ length ranges.now) }
-    requires ranges_value { (bounds_fit (length values.now) (bounds_in bounds ends.now ranges.now) ≡ true) × InRange values.now }
-    requires in_bounds { (1 ≤ length values.now) × (length values.now ≤ 4096) }
-    ensures { result ≡ true → Certified (flat_map ways (bounds_in bounds ends.now ranges.now)) values.now }
-{
-    let n = values.len();
-    if n <= 256 {
-        return check_few(ends, ranges, bounds, values);
+    if net.events <= 256 {
+        return check::<256>(net, values);
     }
-    let mut marks = [0u8; 4096];
-    check(ends, ranges, bounds, values, &mut marks[..n])
+    check::<4096>(net, values)
 }
 
 // A value, and as much more as the next number that 8,192 divides may be away.
@@ -146,19 +114,14 @@ fn lift(x: i64) -> u64
 // Rounds the values up to times; returns the greatest number of arcs that one of them counts.
 pub(crate) fn round(values: &mut [i64]) -> usize
     requires in_range { InRange values.old × ((v : ℕ) → v < length values.old → negsuc 8191 <ℤ value values.old v) }
-    requires in_bounds { (1 ≤ length values.old) × (length values.old ≤ 4096) }
+    requires in_bounds { 1 ≤ length values.old }
     ensures { Rounded values.old values.new result }
 {
     let mut most = 0;
-    let mut i = 0;
-    while i < values.len() {
+    for i in 0..values.len() {
         let x = lift(values[i]);
         values[i] = (x / 8192) as i64;
-        let hops = 8191 - (x % 8192) as usize;
-        if most < hops {
-            most = hops;
-        }
-        i += 1;
+        most = most.max(8191 - (x % 8192) as usize);
     }
     most
 }

@@ -1,114 +1,67 @@
 // A cycle of parents, looked for where the sweeps found no times. Nothing is known of the parents but that they are codes of these bounds, so
 // that whatever makes a cycle one that gains is checked.
-ghost use Rattle.std.specs.Prelude.{◌≡◌, ◌⊎◌, true, ℕ, ◌+◌, ◌-◌, ◌*◌, ◌/◌, ◌%◌, ◌≤◌, ◌<◌, length, get_or};
+ghost use Rattle.std.specs.Prelude.{◌≡◌, ◌⊎◌, true, ℕ, IfSome, ◌+◌, ◌*◌, ◌<◌, length, get_or};
 ghost use mathlib.Core.List.{flat_map};
-ghost use Rattle.network.specs.BoundArrays.{bounds_in};
 ghost use Rattle.walks.specs.Parents.{steps_back};
 ghost use Rattle.schedule.specs.Timetable.{ways};
-ghost use Rattle.passes.specs.Solving.{bounds_fit};
-ghost use Rattle.passes.specs.Marks.{parents_in, Coded, Led, LedBack, Gaining, CycleFound};
+ghost use Rattle.passes.specs.Marks.{parents_in, Led, LedBack, Gaining, CycleFound};
+ghost use Rattle.passes.specs.Networks.{bounds_of, bound_of};
 
-use crate::links;
+use crate::arrays::Network;
+use crate::parents::Parents;
 
-// The event where the arc with the code c + 1 ends.
-fn arc_end(ends: &[u16], c: usize) -> usize
-    requires { (c < 24576) × (2 * (c / 2) + 1 < length ends.now) }
-    ensures { result ≡ get_or ends.now (2 * (c / 2) + (1 - c % 2)) 0 }
-{
-    ends[2 * (c / 2) + (1 - c % 2)] as usize
-}
-
-// The event as many steps back from v as there are events; their number where an event on the way has no parent, or one that ends elsewhere.
-fn led_back(ends: &[u16], ranges: &[u64], bounds: usize, parents: &[u16], v: usize) -> usize
-    requires bounds_bound { (bounds ≤ 12288) × (2 * bounds ≤ length ends.now) }
-    requires v_in_bounds { (v < length parents.now) × (length parents.now ≤ 4096) × (bounds_fit (length parents.now) (bounds_in bounds ends.now ranges.now) ≡ true) }
-    requires coded { Coded (bounds_in bounds ends.now ranges.now) parents.now }
-    ensures { result < length parents.now → LedBack (bounds_in bounds ends.now ranges.now) parents.now v result }
+// The event as many steps back from v as there are events; none where an event on the way has no parent, or one that ends elsewhere.
+fn led_back(parents: &Parents, v: usize) -> Option<usize>
+    requires { v < parents.now.net.now.events }
+    ensures { IfSome result (LedBack (bounds_of parents.now.net.now) parents.now.codes.now v) }
 {
     let mut x = v;
-    let mut j = 0;
-    while j < parents.len() {
-        let code = parents[x] as usize;
-        if code == 0 {
-            return parents.len();
+    for _j in 0..parents.net.events {
+        let c = parents.of(x)?;
+        if parents.net.end_of(c) != x {
+            return None;
         }
-        if arc_end(ends, code - 1) != x {
-            return parents.len();
-        }
-        x = ends[code - 1] as usize;
-        j += 1;
+        x = parents.net.start_of(c);
     }
-    x
+    Some(x)
 }
 
 // Whether a bound goes from the start to x, or x is the start: a cycle that the start doesn't reach keeps no sum from settling.
-fn from_start(ends: &[u16], bounds: usize, x: usize) -> bool
-    requires { (bounds ≤ 12288) × (2 * bounds ≤ length ends.now) }
-    ensures { result ≡ true → (x ≡ 0) ⊎ ((i : ℕ) × (i < bounds) × (get_or ends.now (2 * i) 0 ≡ 0) × (get_or ends.now (2 * i + 1) 0 ≡ x)) }
+fn from_start(net: &Network, x: usize) -> bool
+    ensures { result ≡ true → (x ≡ 0) ⊎ ((i : ℕ) × (i < net.now.bounds) × ((bound_of net.now i).from ≡ 0) × ((bound_of net.now i).to ≡ x)) }
 {
-    if x == 0 {
-        return true;
-    }
-    let mut i = 0;
-    while i < bounds {
-        if ends[2 * i] == 0 {
-            if ends[2 * i + 1] as usize == x {
-                return true;
-            }
-        }
-        i += 1;
-    }
-    false
+    x == 0 || (0..net.bounds).any(|i| net.from(i) == 0 && net.to(i) == x)
 }
 
 // Whether the parents lead from `start` back to it and gain: they do where they cost less than 0.
-fn cycle_gains(ends: &[u16], ranges: &[u64], bounds: usize, parents: &[u16], start: usize) -> bool
-    requires bounds_bound { (bounds ≤ 12288) × (2 * bounds ≤ length ends.now) × (2 * bounds ≤ length ranges.now) }
-    requires start_in_bounds { (start < length parents.now) × (length parents.now ≤ 4096) × (bounds_fit (length parents.now) (bounds_in bounds ends.now ranges.now) ≡ true) }
-    requires coded { Coded (bounds_in bounds ends.now ranges.now) parents.now
-        × ((j : ℕ) → Led (flat_map ways (bounds_in bounds ends.now ranges.now)) (parents_in (bounds_in bounds ends.now ranges.now) parents.now)
-        (steps_back (flat_map ways (bounds_in bounds ends.now ranges.now)) (parents_in (bounds_in bounds ends.now ranges.now) parents.now) j start)) }
-    ensures { result ≡ true → Gaining (flat_map ways (bounds_in bounds ends.now ranges.now)) (length parents.now)
-        (parents_in (bounds_in bounds ends.now ranges.now) parents.now) start }
+fn cycle_gains(parents: &Parents, start: usize) -> bool
+    requires start { start < parents.now.net.now.events }
+    requires led { (j : ℕ) → Led (flat_map ways (bounds_of parents.now.net.now)) (parents_in (bounds_of parents.now.net.now) parents.now.codes.now)
+        (steps_back (flat_map ways (bounds_of parents.now.net.now)) (parents_in (bounds_of parents.now.net.now) parents.now.codes.now) j start) }
+    ensures { result ≡ true → Gaining (flat_map ways (bounds_of parents.now.net.now)) (length parents.now.codes.now)
+        (parents_in (bounds_of parents.now.net.now) parents.now.codes.now) start }
 {
     let mut x = start;
     let mut cost: i64 = 0;
-    let mut j = 0;
-    while j < parents.len() {
-        let c = parents[x] as usize - 1;
-        cost = links::with_arc(ranges, c, cost);
-        x = ends[c] as usize;
+    for _j in 0..parents.net.events {
+        let c = parents.of(x).unwrap();
+        cost = parents.net.with_arc(c, cost);
+        x = parents.net.start_of(c);
         if x == start {
             return cost < 0;
         }
-        j += 1;
     }
     false
 }
 
-// An event on a cycle of parents that gains and that the start reaches, looked for back from v; the number of events where none is found.
-pub(crate) fn find_cycle(
-    ends: &[u16],
-    ranges: &[u64],
-    bounds: usize,
-    parents: &[u16],
-    v: usize,
-) -> usize
-    requires bounds_bound { (bounds ≤ 12288) × (2 * bounds ≤ length ends.now) × (2 * bounds ≤ length ranges.now) }
-    requires v_in_bounds { (v < length parents.now) × (length parents.now ≤ 4096) × (bounds_fit (length parents.now) (bounds_in bounds ends.now ranges.now) ≡ true) }
-    requires coded { Coded (bounds_in bounds ends.now ranges.now) parents.now }
-    ensures { result < length parents.now → CycleFound (bounds_in bounds ends.now ranges.now) parents.now result }
+// An event on a cycle of parents that gains and that the start reaches, looked for back from v.
+pub(crate) fn find_cycle(parents: &Parents, v: usize) -> Option<usize>
+    requires { v < parents.now.net.now.events }
+    ensures { IfSome result (CycleFound (bounds_of parents.now.net.now) parents.now.codes.now) }
 {
-    let n = parents.len();
-    let x = led_back(ends, ranges, bounds, parents, v);
-    if n <= x {
-        return n;
+    let x = led_back(parents, v)?;
+    if from_start(parents.net, x) && cycle_gains(parents, x) {
+        return Some(x);
     }
-    if !from_start(ends, bounds, x) {
-        return n;
-    }
-    if !cycle_gains(ends, ranges, bounds, parents, x) {
-        return n;
-    }
-    x
+    None
 }

@@ -1,149 +1,106 @@
-// The passes. A sum is an i64; LOW stands for none. A parent is the code of the arc that last raised an event: 0 for none, 2 i + 1 for
-// the bound at place i followed forward, 2 i + 2 for the same followed backward.
-ghost use Rattle.std.specs.Prelude.{◌≡◌, true, cond, ℕ, ◌+◌, ◌*◌, ◌≤◌, ◌<◌, length, get_or, set, replicate, ℤ, ◌+ℤ◌, ◌<ℤ◌};
+// The passes. A sum is an i64; LOW stands for none.
+ghost use Rattle.std.specs.Prelude.{◌≡◌, ℕ, MatchOption, ◌<◌, length, get_or, replicate, ℤ};
 ghost use mathlib.Core.List.{List, flat_map};
-ghost use Rattle.std.proofs.Math.Option.{none, some};
 ghost use Rattle.laws.proofs.Signed.{Within};
-ghost use Rattle.std.specs.Int.{w64};
-ghost use Rattle.std.proofs.Common.{SFits};
-ghost use Rattle.network.specs.BoundArrays.{bounds_in};
-ghost use Rattle.walks.specs.Passes.{plus, raise, raise_all, at_start};
+ghost use Rattle.walks.specs.Passes.{raise, at_start};
 ghost use Rattle.walks.specs.Passes.{pass as walk-pass};
-ghost use Rattle.walks.specs.Parents.{raises, adopt_all};
+ghost use Rattle.walks.specs.Parents.{adopt, adopt_all};
 ghost use Rattle.schedule.specs.Timetable.{ways};
 ghost use Rattle.network.specs.Bounds.{Bound};
-ghost use Rattle.passes.specs.Solving.{bound_fits, bounds_fit, no_bound};
-ghost use Rattle.passes.specs.Places.{bound_at};
-ghost use Rattle.passes.specs.Marks.{low, sum_at, sums_in, ways_before, parents_in, Coded, Ran};
+ghost use Rattle.passes.specs.Marks.{low, sums_in, ways_before, arc_place, parents_in, Code, Coded, Followed, Finds};
+ghost use Rattle.passes.specs.Networks.{bounds_of, bound_of};
+ghost use Rattle.passes.specs.Arcs.{arc_of};
 
-use crate::Run;
+use crate::arc::Arc;
+use crate::arrays::Network;
+use crate::parents::Parents;
+use crate::{Found, links};
 
-const LOW: i64 = -4_611_686_018_427_387_904;
+pub(crate) const LOW: i64 = -4_611_686_018_427_387_904;
 
-// Follows one arc, from u to v: where it raises the sum at v, it becomes the parent of v.
-fn follow(old: &[i64], new: &mut [i64], parents: &mut [u16], u: usize, v: usize, w: i64, code: u16)
-    requires u_in_bounds { (u < length old.now) × (v < length new.old) × (v < length parents.old) }
-    requires low_bound { (x : ℤ) → sum_at (get_or old.now u low) ≡ some x → (low <ℤ (x +ℤ w)) × SFits w64 (x +ℤ w) }
-    ensures sums { sums_in new.new ≡ raise (sums_in old.now) (sums_in new.old) (record { from = u; to = v; adds = w }) }
-    ensures adopted { parents.new
-        ≡ cond (raises (get_or (sums_in new.old) v none) (plus (get_or (sums_in old.now) u none) w)) (set parents.old v code) parents.old }
+// Follows one arc: where it raises the sum at the event where it ends, it becomes the parent of that.
+fn follow(old: &[i64], new: &mut [i64], parents: &mut [u16], arc: Arc)
+    requires inside { (arc.from < length old.now) × (arc.to < length new.old) × (arc.to < length parents.old) }
+    requires by_index { (v : ℕ) (x : ℤ) → get_or (sums_in old.now) v None ≡ Some x → Within 4096000000000000 x }
+    ensures sums { sums_in new.new ≡ raise (sums_in old.now) (sums_in new.old) (arc_of arc) }
+    ensures adopted { (bs : List Bound) (place : ℕ) → arc_place bs arc.code ≡ Some place
+        → parents_in bs parents.new ≡ adopt (sums_in old.now) (sums_in new.old) (parents_in bs parents.old) place (arc_of arc) }
+    ensures coded { (bs : List Bound) → Code bs arc.code → Coded bs parents.old → Coded bs parents.new }
 {
-    let from = old[u];
+    let from = old[arc.from];
     if from != LOW {
-        let sum = from + w;
-        let at = new[v];
+        let sum = from + arc.adds;
+        let at = new[arc.to];
         if at < sum {
-            new[v] = sum;
-            parents[v] = code;
+            new[arc.to] = sum;
+            parents[arc.to] = arc.code;
         }
     }
 }
 
-// Follows the bound at place i both ways, each from what `old` has, into `new`: forward it adds lo, and backward it subtracts hi.
-fn follow_bound(
-    ends: &[u16],
-    ranges: &[u64],
-    i: usize,
-    old: &[i64],
-    new: &mut [i64],
-    parents: &mut [u16],
-)
-    requires i_bound { (i < 12288) × (2 * i + 1 < length ends.now) × (2 * i + 1 < length ranges.now) }
-    requires ranges_value { bound_fits (length old.now) (bound_at i ends.now ranges.now) ≡ true }
-    requires len { (length new.old ≡ length old.now) × (length parents.old ≡ length old.now) }
-    requires by_index { (v : ℕ) (x : ℤ) → get_or (sums_in old.now) v none ≡ some x → Within 4096000000000000 x }
-    ensures sums { sums_in new.new ≡ raise_all (ways (bound_at i ends.now ranges.now)) (sums_in old.now) (sums_in new.old) }
-    ensures adopted { (bs : List Bound) → parents_in bs parents.new
-        ≡ adopt_all (ways (bound_at i ends.now ranges.now)) (ways_before bs i) (sums_in old.now) (sums_in new.old)
-        (parents_in bs parents.old) }
-    ensures coded { (bs : List Bound) → i < length bs → get_or bs i no_bound ≡ bound_at i ends.now ranges.now
-        → Coded bs parents.old → Coded bs parents.new }
+// Follows the bound at place i both ways, each from what `old` has, into `new`.
+fn follow_bound(net: &Network, i: usize, old: &[i64], new: &mut [i64], parents: &mut [u16])
+    requires place { i < net.now.bounds }
+    requires len { (length old.now ≡ net.now.events) × (length new.old ≡ net.now.events) × (length parents.old ≡ net.now.events) }
+    requires by_index { (v : ℕ) (x : ℤ) → get_or (sums_in old.now) v None ≡ Some x → Within 4096000000000000 x }
+    ensures { Followed (bounds_of net.now) (ways (bound_of net.now i)) (ways_before (bounds_of net.now) i) old.now new.old new.new parents.old parents.new }
 {
-    let u = ends[2 * i] as usize;
-    let v = ends[2 * i + 1] as usize;
-    let lo = ranges[2 * i] as i64;
-    let hi = ranges[2 * i + 1];
-    let code = 2 * i + 1;
-    follow(old, new, parents, u, v, lo, code as u16);
-    if 0 < hi {
-        let back = 0 - ((hi - 1) as i64);
-        let other = 2 * i + 2;
-        follow(old, new, parents, v, u, back, other as u16);
+    let arc = net.forward(i);
+    follow(old, new, parents, arc);
+    if let Some(back) = net.backward(i, arc) {
+        follow(old, new, parents, back);
     }
 }
 
 // One pass: follows every bound into `new`, which holds the same as `old` at first.
-fn pass(
-    ends: &[u16],
-    ranges: &[u64],
-    bounds: usize,
-    old: &[i64],
-    new: &mut [i64],
-    parents: &mut [u16],
-)
-    requires bounds_bound { (bounds ≤ 12288) × (2 * bounds ≤ length ends.now) × (2 * bounds ≤ length ranges.now) }
-    requires ranges_value { bounds_fit (length old.now) (bounds_in bounds ends.now ranges.now) ≡ true }
-    requires value { (new.old ≡ old.now) × (length parents.old ≡ length old.now) }
-    requires by_index { (v : ℕ) (x : ℤ) → get_or (sums_in old.now) v none ≡ some x → Within 4096000000000000 x }
-    ensures sums { sums_in new.new ≡ walk-pass (flat_map ways (bounds_in bounds ends.now ranges.now)) (sums_in old.now) }
-    ensures adopted { parents_in (bounds_in bounds ends.now ranges.now) parents.new
-        ≡ adopt_all (flat_map ways (bounds_in bounds ends.now ranges.now)) 0 (sums_in old.now) (sums_in old.now)
-        (parents_in (bounds_in bounds ends.now ranges.now) parents.old) }
-    ensures coded { Coded (bounds_in bounds ends.now ranges.now) parents.old
-        → Coded (bounds_in bounds ends.now ranges.now) parents.new }
+fn pass(net: &Network, old: &[i64], new: &mut [i64], parents: &mut [u16])
+    requires value { (length old.now ≡ net.now.events) × (new.old ≡ old.now) × (length parents.old ≡ net.now.events) }
+    requires by_index { (v : ℕ) (x : ℤ) → get_or (sums_in old.now) v None ≡ Some x → Within 4096000000000000 x }
+    ensures sums { sums_in new.new ≡ walk-pass (flat_map ways (bounds_of net.now)) (sums_in old.now) }
+    ensures adopted { parents_in (bounds_of net.now) parents.new
+        ≡ adopt_all (flat_map ways (bounds_of net.now)) 0 (sums_in old.now) (sums_in old.now) (parents_in (bounds_of net.now) parents.old) }
+    ensures coded { Coded (bounds_of net.now) parents.old → Coded (bounds_of net.now) parents.new }
 {
-    let mut i = 0;
-    while i < bounds {
-        follow_bound(ends, ranges, i, old, new, parents);
-        i += 1;
+    for i in 0..net.bounds {
+        follow_bound(net, i, old, new, parents);
     }
 }
 
-// Copies `new` to `old`; returns a place where that changed something, or the length where it changed nothing.
-pub(crate) fn settle(old: &mut [i64], new: &[i64]) -> usize
+// Copies `new` to `old`; a place where that changed something, if there was one.
+fn settle(old: &mut [i64], new: &[i64]) -> Option<usize>
     requires { length old.old ≡ length new.now }
     ensures copied { old.new ≡ new.now }
-    ensures quiet { result ≡ length new.now → old.old ≡ new.now }
-    ensures moved { (result ≤ length new.now) × (result < length new.now → get_or old.old result low ≡ get_or new.now result low → ⊥) }
+    ensures changed { MatchOption result (old.old ≡ new.now) (λ v. (v < length new.now) × (get_or old.old v low ≡ get_or new.now v low → ⊥)) }
 {
-    let mut changed = new.len();
-    let mut i = 0;
-    while i < new.len() {
-        let a = old[i];
-        let b = new[i];
-        if a != b {
-            old[i] = b;
-            changed = i;
+    let mut changed = None;
+    for i in 0..new.len() {
+        if old[i] != new[i] {
+            old[i] = new[i];
+            changed = Some(i);
         }
-        i += 1;
     }
     changed
 }
 
-// Passes over the bounds until one changes nothing, as many as there are events at most.
-pub(crate) fn run(
-    ends: &[u16],
-    ranges: &[u64],
-    bounds: usize,
-    old: &mut [i64],
-    new: &mut [i64],
-    parents: &mut [u16],
-) -> Run
-    requires bounds_bound { (bounds ≤ 12288) × (2 * bounds ≤ length ends.now) × (2 * bounds ≤ length ranges.now) }
-    requires ranges_value { bounds_fit (length old.old) (bounds_in bounds ends.now ranges.now) ≡ true }
-    requires in_bounds { (1 ≤ length old.old) × (length old.old ≤ 4096) }
-    requires value { (sums_in old.old ≡ at_start (length old.old)) × (new.old ≡ old.old) × (parents.old ≡ replicate (length old.old) 0) }
-    ensures { Ran (bounds_in bounds ends.now ranges.now) (length old.old) old.new parents.new result }
+// Passes over the bounds until one changes nothing, as many as there are events at most. An event that the last of them still raised is raised for ever.
+pub(crate) fn run(net: &Network, old: &mut [i64], new: &mut [i64], parents: &mut [u16]) -> Found
+    requires in_bounds { length old.old ≡ net.now.events }
+    requires value { (sums_in old.old ≡ at_start net.now.events) × (new.old ≡ old.old) × (parents.old ≡ replicate net.now.events 0) }
+    ensures { Finds (bounds_of net.now) net.now.events old.new parents.new result }
 {
-    let mut k = 0;
     let mut raised = 0;
-    while k < old.len() {
-        pass(ends, ranges, bounds, old, new, parents);
-        raised = settle(old, new);
-        if raised == old.len() {
-            return Run::Settled(k);
+    for k in 0..old.len() {
+        pass(net, old, new, parents);
+        match settle(old, new) {
+            None => return Found::Settled(k),
+            Some(v) => raised = v,
         }
-        k += 1;
     }
-    Run::Raised(raised)
+    Found::Looped(links::back(
+        &Parents {
+            net,
+            codes: parents,
+        },
+        raised,
+    ))
 }

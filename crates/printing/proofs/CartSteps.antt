@@ -2,86 +2,59 @@
 use Prim.Native.Nat.{ℕ, ◌+◌, ◌*◌, ◌-◌, ◌≤◌, ◌<◌}
 use native.Mathlib.Omega.{arith}
 use mathlib.Core.Path.{◌≡◌, ap, sym, ◌∙◌}
-use mathlib.Core.List.{List, [], ◌++◌}
+use mathlib.Core.List.{List, ◌∷◌, ◌++◌}
 use lib.ListN.{length, take, drop, length-drop}
 use lib.Seq.{length-take-le}
 use Rattle.tables.specs.Arrays.{paths_in}
 use Rattle.limits.specs.Counts.{total, moves}
-use Rattle.limits.proofs.Counts.{path_points}
-use Rattle.limits.proofs.CountSteps.{paths_cons, paths_none, rows_left, all_moves_cons, all_moves_none, from_first}
+use Rattle.limits.proofs.CountSteps.{paths_none, paths_next, row_fits, moves_next, all_moves_none}
 use Rattle.limits.proofs.LimitSteps.{path_events}
-use Rattle.printing.specs.Lines.{Put, path_lines, paths_lines}
-use Rattle.printing.proofs.Puts.{Putting, put_none, put_same, put_more, put_room, put_all}
+use Rattle.printing.specs.declared.events.Lines.{Lines}
+use Rattle.printing.specs.Lines.{text_at, Fits, Prints, path_lines, paths_lines}
+use Rattle.printing.proofs.Puts.{Printing, printing_more, printing_room, printing_all}
 
--- the slice was `first` and the place k; before the i-th path, which is at place `at`, the next event is e
-pub record OnCarts (time : ℕ → ℕ) (s : List ℕ) (n w : ℕ) (first : List ℕ) (k : ℕ) (out : List ℕ) (place e i at : ℕ) : Type 0 where
-  pub within : i ≤ n
-  pub there : at + (n - i) * w ≡ n * w
-  pub counted : e + (n - i) + 3 * total moves (paths_in (n - i) w (drop at s)) ≡ 1 + n + 3 * total moves (paths_in n w s)
-  pub putting : Putting first k (paths_lines time 1 1 (paths_in n w s)) out place (paths_lines time e (i + 1) (paths_in (n - i) w (drop at s)))
+module _ (s : List ℕ) (n w : ℕ) where
+  -- the i-th path, as the code cuts it out, and the paths from it on
+  abbrev path_at : ℕ → List ℕ
+  path_at i = take (i * w + w - i * w) (drop (i * w) s)
 
-module _ (time : ℕ → ℕ) (s : List ℕ) (n w : ℕ) where
-  -- the path at hand, and those after it
-  lines_cons : (e i at : ℕ) → i < n → 1 ≤ w → at + w ≤ length s
-      → paths_lines time e (i + 1) (paths_in (n - i) w (drop at s))
-      ≡ path_lines time e (i + 1) (take w (drop at s)) ++ paths_lines time (e + 3 * moves (take w (drop at s)) + 1) (i + 1 + 1) (paths_in (n - (i + 1)) w (drop (at + w) s))
-  unfolding paths_lines
-  lines_cons e i at l some fits =
-      let q : List ℕ = take w (drop at s) in
-      let here : length q ≡ w = length-take-le w (drop at s) (omega (arith, length-drop at s)) in
-      let more : e + path_points q ≡ e + 3 * moves q + 1 = omega (arith, path_events q (omega arith)) in
-      ap (paths_lines time e (i + 1)) (paths_cons n i w at s l)
-      ∙ ap (λ (x : ℕ). path_lines time e (i + 1) q ++ paths_lines time x (i + 1 + 1) (paths_in (n - (i + 1)) w (drop (at + w) s))) more
+  path_is : (i : ℕ) → path_at i ≡ take w (drop (i * w) s)
+  path_is i = let all : i * w + w - i * w ≡ w = omega arith in ap (λ k. take k (drop (i * w) s)) all
 
-  -- none after the last
-  carts_none : (e i j : ℕ) (r : List ℕ) → n ≤ i → paths_lines time e j (paths_in (n - i) w r) ≡ []
-  unfolding paths_lines
-  carts_none e i j r h = ap (paths_lines time e j) (paths_none n i w r h)
+  abbrev paths_from : ℕ → List (List ℕ)
+  paths_from i = paths_in (n - i) w (drop (i * w) s)
 
-  -- before the first
-  pub carts_first : (first : List ℕ) (k : ℕ) → OnCarts time s n w first k first k 1 0 0
-  carts_first first k =
-      let all : n - 0 ≡ n = omega arith in
-      record {
-        within = omega arith;
-        there = ap (λ (m : ℕ). 0 + m * w) all ∙ omega arith;
-        counted = omega (arith, ap (total moves) (from_first n w s));
-        putting = put_same (put_none first k (paths_lines time 1 1 (paths_in n w s))) (paths_lines time 1 1 (paths_in (n - 0) w (drop 0 s)))
-            (ap (paths_lines time 1 1) (sym (from_first n w s)));
-      }
+  -- from l on the lines of all paths are put up to the i-th, which is m's
+  abbrev pub OnCarts : Lines → Lines → ℕ → Type 0
+  OnCarts l m i =
+      Printing l (paths_lines 1 (paths_in n w s)) (n + 3 * total moves (paths_in n w s)) m (paths_lines (i + 1) (paths_from i)) (n - i + 3 * total moves (paths_from i))
 
-  module _ (first : List ℕ) (k : ℕ) (out : List ℕ) (place e i at : ℕ) (o : OnCarts time s n w first k out place e i at) where
-    -- all is put
-    pub carts_last : n ≤ i → Put first k (paths_lines time 1 1 (paths_in n w s)) out place × (e ≡ 1 + n + 3 * total moves (paths_in n w s))
-    carts_last h = (
-      put_all o.putting (carts_none e i (i + 1) (drop at s) h),
-      omega (arith, o.counted, all_moves_none n i w (drop at s) h),
-    )
+  module _ {l m : Lines} {i : ℕ} (o : OnCarts l m i) where
+    -- all are put
+    pub carts_last : n ≤ i → Prints l (paths_lines 1 (paths_in n w s)) (n + 3 * total moves (paths_in n w s)) m
+    unfolding paths_lines
+    carts_last h = printing_all o (ap (λ ps. text_at (paths_lines (i + 1) ps) m) (paths_none n i w _ h)) (omega (arith, all_moves_none n i w (drop (i * w) s) h))
 
-    module _ (l : i < n) (some : 1 ≤ w) (cells : n * w ≤ length s) where
-      -- the path is there
-      pub path_there : at + w ≤ length s
-      path_there = omega (arith, o.there, rows_left n i w l)
+    module _ (h : i < n) where
+      -- the next path's events are no more than may be
+      pub path_few : l.event + n + 3 * total moves (paths_in n w s) < 4096 → m.event + 3 * moves (path_at i) < 4096
+      path_few f = omega (arith, o.event, moves_next n i w s h, ap moves (path_is i))
 
-      -- and its events are no more than may be
-      pub path_few : 2 + n + 3 * total moves (paths_in n w s) ≤ 4096 → e + 3 * moves (take w (drop at s)) < 4096
-      path_few h = omega (arith, o.counted, all_moves_cons n i w at s l)
+      module _ (some : 1 ≤ w) (cells : n * w ≤ length s) where
+        -- its lines, and those behind it
+        lines_next : (time : ℕ → ℕ) (e : ℕ)
+            → paths_lines (i + 1) (paths_from i) time e ≡ path_lines (i + 1) (path_at i) time e ++ paths_lines (i + 1 + 1) (paths_from (i + 1)) time (e + (3 * moves (path_at i) + 1))
+        unfolding paths_lines
+        lines_next time e =
+            let long : length (path_at i) ≡ w = ap (λ q. length q) (path_is i) ∙ length-take-le w (drop (i * w) s) (omega (arith, length-drop (i * w) s, row_fits n i w h)) in
+            ap (λ ps. paths_lines (i + 1) ps time e) (paths_next n i w s h ∙ ap (λ q. q ∷ paths_from (i + 1)) (sym (path_is i)))
+            ∙ ap (λ x. path_lines (i + 1) (path_at i) time e ++ paths_lines (i + 1 + 1) (paths_from (i + 1)) time (e + x)) (omega (arith, path_events (path_at i) (omega arith)))
 
-      -- there is room for its lines
-      pub path_room : k + length (paths_lines time 1 1 (paths_in n w s)) ≤ length first → place + length (path_lines time e (i + 1) (take w (drop at s))) ≤ length out
-      path_room h =
-          put_room o.putting (path_lines time e (i + 1) (take w (drop at s)))
-          (paths_lines time (e + 3 * moves (take w (drop at s)) + 1) (i + 1 + 1) (paths_in (n - (i + 1)) w (drop (at + w) s))) (lines_cons e i at l some path_there) h
+        -- there is room for its lines
+        pub path_room : Fits l (paths_lines 1 (paths_in n w s)) → Fits m (path_lines (i + 1) (path_at i))
+        path_room = printing_room o (path_lines (i + 1) (path_at i)) _ (lines_next _ _)
 
-      -- they are put
-      pub carts_next : (out' : List ℕ) (place' e' : ℕ) → Put out place (path_lines time e (i + 1) (take w (drop at s))) out' place'
-          → e' ≡ e + 3 * moves (take w (drop at s)) + 1 → OnCarts time s n w first k out' place' e' (i + 1) (at + w)
-      carts_next out' place' e' p q =
-          let rest : List (List ℕ) = paths_in (n - (i + 1)) w (drop (at + w) s) in
-          record {
-            within = omega arith;
-            there = omega (arith, o.there, rows_left n i w l);
-            counted = omega (arith, o.counted, q, all_moves_cons n i w at s l);
-            putting = put_more o.putting (path_lines time e (i + 1) (take w (drop at s))) (paths_lines time e' (i + 1 + 1) rest)
-                (lines_cons e i at l some path_there ∙ ap (λ (x : ℕ). path_lines time e (i + 1) (take w (drop at s)) ++ paths_lines time x (i + 1 + 1) rest) (sym q)) p;
-          }
+        -- they are put
+        pub carts_next : {k : Lines} → Prints m (path_lines (i + 1) (path_at i)) (3 * moves (path_at i) + 1) k → OnCarts l k (i + 1)
+        carts_next p =
+            printing_more o (paths_lines (i + 1 + 1) (paths_from (i + 1))) (n - (i + 1) + 3 * total moves (paths_from (i + 1))) (lines_next _ _) (omega (arith, moves_next n i w s h, ap moves (path_is i))) p

@@ -9,9 +9,10 @@ use lib.Dec.{eqb}
 use lib.ListN.{length, length-append, length-map}
 use borrow.Author.Tests.{eqb-true}
 use Rattle.rfc4180.specs.Text.{bytes}
-use Rattle.floor.specs.Plan.{Cart, Plan}
+use Rattle.floor.specs.Plan.{Plan}
+use Rattle.floor.specs.declared.Cart.{Cart}
 use Rattle.network.specs.Events.{Visit, visits_after, visits_of, Point, leave, approach, entry, point, points_after, points, Route, routes, routes_of, route_points, Event, start, finish, passing, events, event_count}
-use Rattle.printing.specs.Text.{shown, cart_shown, cell_shown, event_line, event_lines, times_text}
+use Rattle.printing.specs.Text.{cart_shown, cell_shown, event_line, event_lines, times_text}
 use Rattle.printing.specs.Lines.{field, ending, point_line, outer_line, move_lines, lines_after, path_lines, paths_lines, lines_text}
 use Rattle.printing.proofs.Digits.{shown_most}
 
@@ -19,7 +20,7 @@ module _ (time : ℕ → ℕ) where
   -- ---- one line
 
   -- of a point
-  point_is : (e j : ℕ) (x : Point) → point_line time e j x.cell ≡ event_line e (passing j x) (time e)
+  point_is : (e j : ℕ) (x : Point) → point_line j x.cell time e ≡ event_line e (passing j x) (time e)
   unfolding point_line field ending event_line cart_shown cell_shown
   point_is e j x = simp append_assoc
 
@@ -47,25 +48,18 @@ module _ (time : ℕ → ℕ) where
 
   -- a move
   move_is : (e j c : ℕ) (x y : Visit) (more : List Event) → x.cell ≡ c
-      → move_lines time e j c y.cell ++ event_lines time (e + 3) more
+      → move_lines j c y.cell time e ++ event_lines time (e + 3) more
       ≡ event_lines time e (passing j (point leave x) ∷ passing j (point approach y) ∷ passing j (point entry y) ∷ more)
   unfolding move_lines event_lines point
   move_is e j c x y more q =
       let one : e + 1 ≡ suc e = omega arith in
       let two : e + 2 ≡ suc (suc e) = omega arith in
       let three : e + 3 ≡ suc (suc (suc e)) = omega arith in
-      let a : point_line time e j c ≡ event_line e (passing j (point leave x)) (time e) = ap (point_line time e j) (sym q) ∙ point_is e j (point leave x) in
-      let b : point_line time (e + 1) j y.cell ≡ event_line (suc e) (passing j (point approach y)) (time (suc e)) =
-      ap (λ (n : ℕ). point_line time n j y.cell) one ∙ point_is (suc e) j (point approach y) in
-      let d : point_line time (e + 2) j y.cell ≡ event_line (suc (suc e)) (passing j (point entry y)) (time (suc (suc e))) =
-      ap (λ (n : ℕ). point_line time n j y.cell) two ∙ point_is (suc (suc e)) j (point entry y) in
-      let f : event_lines time (e + 3) more ≡ event_lines time (suc (suc (suc e))) more = ap (λ (n : ℕ). event_lines time n more) three in
-      append_assoc (point_line time e j c) (point_line time (e + 1) j y.cell ++ point_line time (e + 2) j y.cell) (event_lines time (e + 3) more)
-      ∙ ap₂ {C = List ℕ} ◌++◌ a (append_assoc (point_line time (e + 1) j y.cell) (point_line time (e + 2) j y.cell) (event_lines time (e + 3) more) ∙ ap₂ {C = List ℕ} ◌++◌ b (ap₂ {C = List ℕ} ◌++◌ d f))
+      rw (← q, one, two, three, point_is e j (point leave x), point_is (suc e) j (point approach y), point_is (suc (suc e)) j (point entry y)) (simp append_assoc)
 
   -- from a step on
   after_is : (ds : List ℕ) (e j c t : ℕ) (x : Visit) → x.cell ≡ c
-      → lines_after time e j c ds ≡ event_lines time e (map (passing j) (points_after x (visits_after c t ds)))
+      → lines_after j c ds time e ≡ event_lines time e (map (passing j) (points_after x (visits_after c t ds)))
   unfolding lines_after visits_after points_after event_lines
   after_is [] e j c t x q = refl
   after_is (d ∷ ds) e j c t x q = by (eqb c d) refl (λ h. after_is ds e j d (suc t) x h) (after_is ds (e + 3) j d (suc t) (record { step = t; cell = d }) refl)
@@ -73,27 +67,27 @@ module _ (time : ℕ → ℕ) where
       rest : List Visit
       rest = visits_after d (suc t) ds
 
-      by : (b : Bool) → eqb c d ≡ b → (x.cell ≡ d → lines_after time e j d ds ≡ event_lines time e (map (passing j) (points_after x rest)))
-          → lines_after time (e + 3) j d ds ≡ event_lines time (e + 3) (map (passing j) (points_after (record { step = t; cell = d }) rest))
-          → cond b (lines_after time e j d ds) (move_lines time e j c d ++ lines_after time (e + 3) j d ds)
+      by : (b : Bool) → eqb c d ≡ b → (x.cell ≡ d → lines_after j d ds time e ≡ event_lines time e (map (passing j) (points_after x rest)))
+          → lines_after j d ds time (e + 3) ≡ event_lines time (e + 3) (map (passing j) (points_after (record { step = t; cell = d }) rest))
+          → cond b (lines_after j d ds time e) (move_lines j c d time e ++ lines_after j d ds time (e + 3))
           ≡ event_lines time e (map (passing j) (points_after x (cond b rest (record { step = t; cell = d } ∷ rest))))
       by true h wait move = wait (q ∙ eqb-true c d h)
       by false h wait move =
-          ap (λ (l : List ℕ). move_lines time e j c d ++ l) move
+          ap (λ (l : List ℕ). move_lines j c d time e ++ l) move
           ∙ move_is e j c x (record { step = t; cell = d }) (map (passing j) (points_after (record { step = t; cell = d }) rest)) q
 
   -- whole
-  path_is : (p : List ℕ) (e j : ℕ) → path_lines time e j p ≡ event_lines time e (map (passing j) (points (visits_of p)))
+  path_is : (p : List ℕ) (e j : ℕ) → path_lines j p time e ≡ event_lines time e (map (passing j) (points (visits_of p)))
   unfolding path_lines visits_of points event_lines point
   path_is [] e j = refl
   path_is (c ∷ cs) e j =
       ap₂ {C = List ℕ} ◌++◌ (point_is e j (point entry (record { step = 0; cell = c })))
-      (ap (λ (n : ℕ). lines_after time n j c cs) (add-one e) ∙ after_is cs (suc e) j c 1 (record { step = 0; cell = c }) refl)
+      (ap (λ (n : ℕ). lines_after j c cs time n) (add-one e) ∙ after_is cs (suc e) j c 1 (record { step = 0; cell = c }) refl)
 
   -- ---- all paths
 
   paths_are : (cs : List Cart) (ps : List (List ℕ)) (j e : ℕ) → length cs ≡ length ps
-      → paths_lines time e j ps ≡ event_lines time e (flat_map (λ (r : Route). map (passing r.number) (route_points r)) (routes j e cs ps))
+      → paths_lines j ps time e ≡ event_lines time e (flat_map (λ (r : Route). map (passing r.number) (route_points r)) (routes j e cs ps))
   unfolding paths_lines routes flat_map event_lines route_points
   paths_are [] [] j e h = refl
   paths_are [] (p ∷ ps) j e h = absurd (omega arith)
@@ -104,7 +98,7 @@ module _ (time : ℕ → ℕ) where
       let more : List Event = flat_map (λ (r : Route). map (passing r.number) (route_points r)) (routes (suc j) n cs ps) in
       let far : n ≡ e + length here = ap (λ (k : ℕ). e + k) (sym (length-map (points (visits_of p)) (passing j))) in
       ap₂ {C = List ℕ} ◌++◌ (path_is p e j)
-      (ap (λ (k : ℕ). paths_lines time n k ps) (add-one j) ∙ paths_are cs ps (suc j) n (omega arith) ∙ ap (λ (k : ℕ). event_lines time k more) far)
+      (ap (λ (k : ℕ). paths_lines k ps time n) (add-one j) ∙ paths_are cs ps (suc j) n (omega arith) ∙ ap (λ (k : ℕ). event_lines time k more) far)
       ∙ sym (lines_append here more e)
 
   -- the text whole, where the finish is event n
@@ -138,33 +132,20 @@ cell_most (passing c x) = shown_most x.cell
 line_most : (e t : ℕ) (x : Event) → length (event_line e x t) ≤ 85
 unfolding event_line
 line_most e t x =
-    let d : List ℕ = shown t ++ (13 ∷ 10 ∷ []) in
-    let c : List ℕ = cell_shown x ++ (44 ∷ d) in
-    let b : List ℕ = cart_shown x ++ (44 ∷ c) in
-    omega (
-      arith,
-      length-append (shown e) (44 ∷ b),
-      length-append (cart_shown x) (44 ∷ c),
-      length-append (cell_shown x) (44 ∷ d),
-      length-append (shown t) (13 ∷ 10 ∷ []),
-      shown_most e,
-      cart_most x,
-      cell_most x,
-      shown_most t,
-    )
+    omega (arith, length-append {A = ℕ}, shown_most, cart_most x, cell_most x)
 
 -- several
 lines_most : (time : ℕ → ℕ) (xs : List Event) (e : ℕ) → length (event_lines time e xs) ≤ 85 * length xs
 unfolding event_lines
 lines_most time [] e = omega arith
 lines_most time (x ∷ xs) e =
-    omega (arith, length-append (event_line e x (time e)) (event_lines time (suc e) xs), line_most e (time e) x, lines_most time xs (suc e))
+    omega (arith, length-append {A = ℕ}, line_most e (time e) x, lines_most time xs (suc e))
 
 -- all, with the first line
 pub text_most : (time : ℕ → ℕ) (p : Plan) → event_count p ≤ 4096 → length (times_text p time) ≤ 348_245
 unfolding times_text event_count bytes
 text_most time p h =
-    omega (arith, length-append (bytes "event,cart,cell,time\r\n") (event_lines time 0 (events p)), lines_most time (events p) 0)
+    omega (arith, length-append {A = ℕ}, lines_most time (events p) 0)
 
 -- ---- times that are the same at every event give the same text
 

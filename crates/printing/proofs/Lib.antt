@@ -1,6 +1,5 @@
 pub mod Puts
 pub mod Digits
-pub mod Fields
 pub mod Texts
 pub mod PathSteps
 pub mod CartSteps

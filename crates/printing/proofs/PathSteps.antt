@@ -1,121 +1,131 @@
--- The lines of a path in an array, one step after the other. Assumes nothing.
-use Prim.Native.Nat.{ℕ, ◌+◌, ◌*◌, ◌≤◌, ◌<◌}
+-- The lines of a path, one step after the other. Assumes nothing.
+use Prim.Native.Nat.{ℕ, suc, ◌+◌, ◌*◌, ◌≤◌, ◌<◌}
 use native.Mathlib.Omega.{arith}
-use mathlib.Core.Path.{◌≡◌, ap, sym, ◌∙◌, subst}
+use mathlib.Core.Path.{◌≡◌, refl, ap, ap₂, sym, ◌∙◌, subst}
 use mathlib.Core.Bool.{Bool, cond}
-use mathlib.Core.List.{List, [], ◌++◌}
-use lib.ListN.{length, take, drop, get_or}
+use mathlib.Core.List.{List, [], ◌∷◌, ◌++◌}
+use lib.ListN.{length, take, drop, get_or, length-drop}
 use borrow.Author.Tests.{eq-eqb, ne_eqb}
 use Rattle.limits.specs.Counts.{moves_after, moves}
-use Rattle.limits.proofs.CountSteps.{steps_from, steps_cons, path_cons, steps_none, moves_first, moves_wait, moves_move, moves_none}
-use Rattle.printing.specs.Lines.{Put, point_line, move_lines, lines_after, path_lines}
-use Rattle.printing.proofs.Puts.{put_then, put_as, put_to, room_first, room_behind, Putting, put_none, put_same, put_on, put_more, put_room, put_all}
+use Rattle.printing.specs.declared.events.Lines.{Lines}
+use Rattle.printing.specs.Lines.{ByEvent, Fits, Prints, point_line, move_lines, lines_after, path_lines}
+use Rattle.printing.proofs.Puts.{Printing, printing_none, printing_same, printing_more, printing_room, printing_all}
 
--- the slice was `first` and the place k behind the line of event e; before step t, after one in cell c, the next event is n
-pub record OnPath (time : ℕ → ℕ) (j : ℕ) (s : List ℕ) (at w e : ℕ) (first : List ℕ) (k : ℕ) (out : List ℕ) (c place n t : ℕ) : Type 0 where
-  pub some : 1 ≤ t
-  pub within : t ≤ w
-  pub counted : n + 3 * moves_after c (steps_from s at w t) ≡ e + 3 * moves (take w (drop at s)) + 1
-  pub putting : Putting first k (lines_after time (e + 1) j (get_or s at 0) (steps_from s at w 1)) out place (lines_after time n j c (steps_from s at w t))
+-- the lines after the first of these steps
+unfoldable pub later_lines : ℕ → List ℕ → ByEvent
+later_lines j [] time e = []
+later_lines j (c ∷ cs) time e = lines_after j c cs time e
 
-module _ (time : ℕ → ℕ) (j : ℕ) (s : List ℕ) (at w : ℕ) (fits : at + w ≤ length s) where
-  -- the first cell's line, and the lines from step 1 on
-  lines_first : (e : ℕ) → 1 ≤ w
-      → path_lines time e j (take w (drop at s)) ≡ point_line time e j (get_or s at 0) ++ lines_after time (e + 1) j (get_or s at 0) (steps_from s at w 1)
-  unfolding path_lines
-  lines_first e l = ap (path_lines time e j) (path_cons s at w fits l)
+module _ (j : ℕ) (time : ℕ → ℕ) (e : ℕ) where
+  -- before them that of the first
+  path_first : (p : List ℕ) → 1 ≤ length p → path_lines j p time e ≡ point_line j (get_or p 0 0) time e ++ later_lines j p time (e + 1)
+  unfolding path_lines later_lines
+  path_first [] h = absurd (omega arith)
+  path_first (c ∷ cs) h = refl
 
   -- a wait has none
-  lines_wait : (e c t : ℕ) → t < w → c ≡ get_or s (at + t) 0
-      → lines_after time e j c (steps_from s at w t) ≡ lines_after time e j (get_or s (at + t) 0) (steps_from s at w (t + 1))
-  unfolding lines_after
-  lines_wait e c t l q =
-      let d : ℕ = get_or s (at + t) 0 in
-      let rest : List ℕ = steps_from s at w (t + 1) in
-      ap (lines_after time e j c) (steps_cons s at w fits t l)
-      ∙ ap (λ (b : Bool). cond b (lines_after time e j d rest) (move_lines time e j c d ++ lines_after time (e + 3) j d rest)) (eq-eqb c d q)
+  lines_wait : (p : List ℕ) → 2 ≤ length p → get_or (take 2 p) 0 0 ≡ get_or (take 2 p) 1 0 → later_lines j p time e ≡ later_lines j (drop 1 p) time e
+  unfolding later_lines lines_after
+  lines_wait [] h q = absurd (omega arith)
+  lines_wait (c ∷ []) h q = absurd (omega arith)
+  lines_wait (c ∷ d ∷ ds) h q =
+      ap (λ (b : Bool). cond b (lines_after j d ds time e) (move_lines j c d time e ++ lines_after j d ds time (e + 3))) (eq-eqb c d q)
 
   -- a move has three
-  lines_move : (e c t : ℕ) → t < w → (c ≡ get_or s (at + t) 0 → ⊥)
-      → lines_after time e j c (steps_from s at w t)
-      ≡ move_lines time e j c (get_or s (at + t) 0) ++ lines_after time (e + 3) j (get_or s (at + t) 0) (steps_from s at w (t + 1))
-  unfolding lines_after
-  lines_move e c t l q =
-      let d : ℕ = get_or s (at + t) 0 in
-      let rest : List ℕ = steps_from s at w (t + 1) in
-      ap (lines_after time e j c) (steps_cons s at w fits t l)
-      ∙ ap (λ (b : Bool). cond b (lines_after time e j d rest) (move_lines time e j c d ++ lines_after time (e + 3) j d rest)) (ne_eqb c d q)
+  lines_move : (p : List ℕ) → 2 ≤ length p → (get_or (take 2 p) 0 0 ≡ get_or (take 2 p) 1 0 → ⊥)
+      → later_lines j p time e ≡ move_lines j (get_or (take 2 p) 0 0) (get_or (take 2 p) 1 0) time e ++ later_lines j (drop 1 p) time (e + 3)
+  unfolding later_lines lines_after
+  lines_move [] h q = absurd (omega arith)
+  lines_move (c ∷ []) h q = absurd (omega arith)
+  lines_move (c ∷ d ∷ ds) h q =
+      ap (λ (b : Bool). cond b (lines_after j d ds time e) (move_lines j c d time e ++ lines_after j d ds time (e + 3))) (ne_eqb c d q)
 
   -- none after the last step
-  lines_none : (e c t : ℕ) → w ≤ t → lines_after time e j c (steps_from s at w t) ≡ []
-  unfolding lines_after
-  lines_none e c t l = ap (lines_after time e j c) (steps_none s at w fits t l)
+  lines_none : (p : List ℕ) → length p < 2 → later_lines j p time e ≡ []
+  unfolding later_lines lines_after
+  lines_none [] h = refl
+  lines_none (c ∷ []) h = refl
+  lines_none (c ∷ d ∷ ds) h = absurd (omega arith)
 
-  -- ---- the loop
+-- how many moves there are
+moves_wait : (p : List ℕ) → 2 ≤ length p → get_or (take 2 p) 0 0 ≡ get_or (take 2 p) 1 0 → moves p ≡ moves (drop 1 p)
+unfolding moves moves_after
+moves_wait [] h q = absurd (omega arith)
+moves_wait (c ∷ []) h q = absurd (omega arith)
+moves_wait (c ∷ d ∷ ds) h q = ap (λ (b : Bool). cond b (moves_after d ds) (suc (moves_after d ds))) (eq-eqb c d q)
 
-  module _ (e : ℕ) (l : 1 ≤ w) (first : List ℕ) (k : ℕ) where
-    -- before step 1
-    pub on_first : OnPath time j s at w e first k first (get_or s at 0) k (e + 1) 1
-    on_first =
-        record {
-          some = omega arith;
-          within = l;
-          counted = omega (arith, moves_first s at w fits l);
-          putting = put_none first k (lines_after time (e + 1) j (get_or s at 0) (steps_from s at w 1));
-        }
+moves_move : (p : List ℕ) → 2 ≤ length p → (get_or (take 2 p) 0 0 ≡ get_or (take 2 p) 1 0 → ⊥) → moves p ≡ 1 + moves (drop 1 p)
+unfolding moves moves_after
+moves_move [] h q = absurd (omega arith)
+moves_move (c ∷ []) h q = absurd (omega arith)
+moves_move (c ∷ d ∷ ds) h q = omega (arith, ap (λ (b : Bool). cond b (moves_after d ds) (suc (moves_after d ds))) (ne_eqb c d q))
 
-    -- room for the first line
-    pub first_room : (s₀ : List ℕ) (k₀ : ℕ) → k₀ + length (path_lines time e j (take w (drop at s))) ≤ length s₀
-        → k₀ + length (point_line time e j (get_or s at 0)) ≤ length s₀
-    first_room s₀ k₀ h =
-        room_first s₀ k₀ (point_line time e j (get_or s at 0)) (lines_after time (e + 1) j (get_or s at 0) (steps_from s at w 1))
-        (subst (λ (x : List ℕ). k₀ + length x ≤ length s₀) (lines_first e l) h)
+moves_none : (p : List ℕ) → length p < 2 → moves p ≡ 0
+unfolding moves moves_after
+moves_none [] h = refl
+moves_none (c ∷ []) h = refl
+moves_none (c ∷ d ∷ ds) h = absurd (omega arith)
 
-    module _ (s₀ : List ℕ) (k₀ : ℕ) (p : Put s₀ k₀ (point_line time e j (get_or s at 0)) first k)
-        (out : List ℕ) (c place n t : ℕ) (o : OnPath time j s at w e first k out c place n t) where
-      -- all is put
-      pub on_last : w ≤ t → Put s₀ k₀ (path_lines time e j (take w (drop at s))) out place × (n ≡ e + 3 * moves (take w (drop at s)) + 1)
-      on_last h = (
-        put_as (sym (lines_first e l)) (put_then p (put_all o.putting (lines_none n c t h))),
-        omega (arith, o.counted, moves_none s at w fits c t h),
-      )
+-- ---- the loop
 
-      -- room for a move's lines
-      pub on_room : k₀ + length (path_lines time e j (take w (drop at s))) ≤ length s₀ → e + 3 * moves (take w (drop at s)) < 4096
-          → t < w → (c ≡ get_or s (at + t) 0 → ⊥) → (n ≤ 4096) × (place + length (move_lines time n j c (get_or s (at + t) 0)) ≤ length out)
-      on_room h f g q =
-          let whole : k₀ + length (point_line time e j (get_or s at 0) ++ lines_after time (e + 1) j (get_or s at 0) (steps_from s at w 1)) ≤ length s₀ =
-          subst (λ (x : List ℕ). k₀ + length x ≤ length s₀) (lines_first e l) h in
-          let d : ℕ = get_or s (at + t) 0 in (
-            omega (arith, o.counted),
-            put_room o.putting (move_lines time n j c d) (lines_after time (n + 3) j d (steps_from s at w (t + 1))) (lines_move n c t g q)
-                (room_behind (lines_after time (e + 1) j (get_or s at 0) (steps_from s at w 1)) whole p),
-          )
+-- from l on the lines of path p are put up to its steps that are left, the first of which is m's
+pub record OnPath (l : Lines) (j : ℕ) (p : List ℕ) (m : Lines) (left : List ℕ) : Type 0 where
+  pub some : 1 ≤ length left
+  pub printing : Printing l (path_lines j p) (3 * moves p + 1) m (later_lines j left) (3 * moves left)
 
-    module _ (out : List ℕ) (c place n t : ℕ) (o : OnPath time j s at w e first k out c place n t) (g : t < w) (out' : List ℕ) (place' n' : ℕ) where
-      -- a wait
-      pub on_wait : c ≡ get_or s (at + t) 0 → out' ≡ out → place' ≡ place → n' ≡ n → OnPath time j s at w e first k out' (get_or s (at + t) 0) place' n' (t + 1)
-      on_wait q eo ep en =
-          let d : ℕ = get_or s (at + t) 0 in
-          let rest : List ℕ = steps_from s at w (t + 1) in
+-- two steps next to each other, and those left then
+pub record Stepped (left step after : List ℕ) : Type 0 where
+  pub two : 2 ≤ length left
+  pub cells : step ≡ take 2 left
+  pub less : after ≡ drop 1 left
+
+-- there is room for the first line
+pub first_room : (l : Lines) (j : ℕ) (p : List ℕ) → 1 ≤ length p → Fits l (path_lines j p) → Fits l (point_line j (get_or p 0 0))
+first_room l j p h = printing_room (printing_none l (path_lines j p) 0) (point_line j (get_or p 0 0)) _ (path_first j _ _ p h)
+
+-- it is put
+pub path_begins : (l : Lines) (j : ℕ) (p : List ℕ) (m : Lines) → 1 ≤ length p → Prints l (point_line j (get_or p 0 0)) 1 m → OnPath l j p m p
+path_begins l j p m h q =
+    record {
+      some = h;
+      printing = printing_more (printing_none l (path_lines j p) (3 * moves p + 1)) (later_lines j p) (3 * moves p) (path_first j _ _ p h) (omega arith) q;
+    }
+
+module _ {l : Lines} {j : ℕ} {p : List ℕ} {m : Lines} {left : List ℕ} (o : OnPath l j p m left) where
+  module _ {step after : List ℕ} (s : Stepped left step after) where
+    -- a wait
+    pub path_waits : get_or step 0 0 ≡ get_or step 1 0 → OnPath l j p m after
+    path_waits q =
+        let e : get_or (take 2 left) 0 0 ≡ get_or (take 2 left) 1 0 = subst (λ x. get_or x 0 0 ≡ get_or x 1 0) s.cells q in
+        subst (OnPath l j p m) (sym s.less) (record {
+          some = omega (arith, length-drop 1 left, s.two);
+          printing = printing_same o.printing (later_lines j (drop 1 left)) (3 * moves (drop 1 left)) (lines_wait j _ _ left s.two e) (ap (λ n. 3 * n) (moves_wait left s.two e));
+        })
+
+    module _ (q : get_or step 0 0 ≡ get_or step 1 0 → ⊥) where
+      two_cells : get_or (take 2 left) 0 0 ≡ get_or (take 2 left) 1 0 → ⊥
+      two_cells = subst (λ x. get_or x 0 0 ≡ get_or x 1 0 → ⊥) s.cells q
+
+      its_lines : (time : ℕ → ℕ) (e : ℕ) → later_lines j left time e ≡ move_lines j (get_or step 0 0) (get_or step 1 0) time e ++ later_lines j after time (e + 3)
+      its_lines time e = lines_move j time e left s.two two_cells ∙ ap₂ (λ x y. move_lines j (get_or x 0 0) (get_or x 1 0) time e ++ later_lines j y time (e + 3)) (sym s.cells) (sym s.less)
+
+      its_moves : moves left ≡ 1 + moves after
+      its_moves = moves_move left s.two two_cells ∙ ap (λ x. 1 + moves x) (sym s.less)
+
+      -- a move: its events are no more than may be, there is room for its lines, and they are put
+      pub path_few : l.event + 3 * moves p < 4096 → m.event + 3 ≤ 4096
+      path_few h = omega (arith, o.printing.event, its_moves)
+
+      pub path_room : Fits l (path_lines j p) → Fits m (move_lines j (get_or step 0 0) (get_or step 1 0))
+      path_room = printing_room o.printing (move_lines j (get_or step 0 0) (get_or step 1 0)) _ (its_lines _ _)
+
+      pub path_moves : {n : Lines} → Prints m (move_lines j (get_or step 0 0) (get_or step 1 0)) 3 n → OnPath l j p n after
+      path_moves r =
           record {
-            some = omega arith;
-            within = omega arith;
-            counted = omega (arith, o.counted, moves_wait s at w fits c t g q);
-            putting = put_same (put_on o.putting out' place' eo ep) (lines_after time n' j d rest)
-                (lines_wait n c t g q ∙ ap (λ (m : ℕ). lines_after time m j d rest) (sym en));
+            some = omega (arith, s.two, length-drop 1 left, ap (λ x. length x) s.less);
+            printing = printing_more o.printing (later_lines j after) (3 * moves after) (its_lines _ _) (omega (arith, its_moves)) r;
           }
 
-      -- a move
-      pub on_move : (c ≡ get_or s (at + t) 0 → ⊥) → (u : List ℕ) (m : ℕ) → Put out place (move_lines time n j c (get_or s (at + t) 0)) u m
-          → out' ≡ u → place' ≡ m → n' ≡ n + 3 → OnPath time j s at w e first k out' (get_or s (at + t) 0) place' n' (t + 1)
-      on_move q u m p eo ep en =
-          let d : ℕ = get_or s (at + t) 0 in
-          let rest : List ℕ = steps_from s at w (t + 1) in
-          record {
-            some = omega arith;
-            within = omega arith;
-            counted = omega (arith, o.counted, en, moves_move s at w fits c t g q);
-            putting = put_more o.putting (move_lines time n j c d) (lines_after time n' j d rest)
-                (lines_move n c t g q ∙ ap (λ (x : ℕ). move_lines time n j c d ++ lines_after time x j d rest) (sym en)) (put_to p out' place' eo ep);
-          }
+  -- the last step has no lines behind it
+  pub path_ends : length left < 2 → Prints l (path_lines j p) (3 * moves p + 1) m
+  path_ends h = printing_all o.printing (lines_none j _ _ left h) (ap (λ n. 3 * n) (moves_none left h))

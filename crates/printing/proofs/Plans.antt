@@ -1,10 +1,11 @@
 -- The times of the plan that a slice holds, from its paths in an array. Assumes nothing.
+use Rattle.std.specs.Prelude.{Some}
 use Prim.Native.Nat.{ℕ, ◌+◌, ◌*◌, ◌≤◌}
 use native.Mathlib.Omega.{arith}
-use mathlib.Core.Path.{◌≡◌, ap, sym, ◌∙◌, subst}
+use mathlib.Core.Path.{◌≡◌, ap, ap₂, sym, ◌∙◌, subst}
 use mathlib.Core.List.{List}
-use mathlib.Core.Option.{some, some-injective}
 use lib.ListN.{length}
+use Rattle.laws.proofs.Options.{some-injective}
 use Rattle.words.proofs.Padding.{padded_length}
 use Rattle.floor.specs.Plan.{Plan}
 use Rattle.floor.proofs.Accepted.{Sound, Even, accepted_even}
@@ -12,70 +13,83 @@ use Rattle.tables.specs.Arrays.{path_cells, paths_in}
 use Rattle.tables.proofs.PathTurns.{even_cells}
 use Rattle.network.specs.Events.{event_count}
 use Rattle.network.proofs.Judged.{judged}
-use Rattle.limits.specs.Counts.{total, moves}
+use Rattle.limits.specs.Counts.{total}
+use Rattle.limits.specs.OfPaths.{moves_of}
+use Rattle.collisions.specs.declared.Paths.{Paths}
+use Rattle.collisions.specs.Meetings.{paths_of}
+use Rattle.floor.specs.Paths.{steps}
 use Rattle.limits.proofs.Counts.{path_points, events_are}
 use Rattle.limits.proofs.LimitSteps.{all_events}
+use Rattle.tables.specs.Reading.{Arrays}
+use Rattle.slice.specs.declared.Holding.{Holding}
 use Rattle.slice.specs.PlanSlice.{Held, held}
 use Rattle.slice.specs.HeldPlan.{Holds}
 use Rattle.slice.proofs.HeldPlan.{accepted_there, read_there, sound, paths_there, some_steps}
 use Rattle.printing.specs.Text.{times_text}
-use Rattle.printing.specs.Lines.{Put, lines_text}
-use Rattle.printing.proofs.Puts.{put_as}
+use Rattle.printing.specs.Lines.{lines_text}
 use Rattle.printing.proofs.EventTexts.{text_is, text_most}
 
-module _ (s edges speeds cells : List ℕ) (roads carts w reports : ℕ) (h : Holds s edges speeds cells roads carts w reports) where
+-- paths in an array, those of the plan that the slice s holds: they are there, their events are no more than may be, and their text is the plan's, and not too long
+pub record HeldPaths (s : List ℕ) (x : Paths) : Type 0 where
+  pub cells : (1 ≤ x.steps) × (x.carts * x.steps ≤ length x.cells.now)
+  pub few : 2 + x.carts + 3 * moves_of x ≤ 4096
+  pub short : (time : ℕ → ℕ) → length (lines_text time (1 + (x.carts + 3 * moves_of x)) (paths_of x)) ≤ 348_245
+  pub text : (time : ℕ → ℕ) (g : Held) → held s ≡ Some g → lines_text time (1 + (x.carts + 3 * moves_of x)) (paths_of x) ≡ times_text g.plan time
+
+module _ (s : List ℕ) (a : Arrays) (n : Holding) (h : Holds s a n) (x : Paths) (ec : x.cells.now ≡ a.cells) (en : x.carts ≡ n.size.carts) (ew : x.steps ≡ n.size.steps) where
   abbrev plan : Plan
   plan = h.plan_held.plan
 
   its_sound : Sound plan
-  its_sound = sound s edges speeds cells roads carts w reports h
+  its_sound = sound s a n h
+
+  carts_are : x.carts ≡ length plan.carts
+  carts_are = en ∙ h.carts_are
+
+  steps_are : x.steps ≡ steps plan.paths
+  steps_are = ew ∙ h.steps_are
+
+  -- the paths are the plan's
+  its_paths : paths_of x ≡ plan.paths
+  its_paths = ap₂ (λ (i j : ℕ). paths_in i j x.cells.now) en ew ∙ ap (paths_in n.size.carts n.size.steps) ec ∙ paths_there s a n h
 
   even : Even plan.paths
-  even = accepted_even h.plan_held.tables plan (read_there s edges speeds cells roads carts w reports h)
+  even = accepted_even h.plan_held.tables plan (read_there s a n h)
 
   -- its paths are in the array
-  pub array_there : (carts ≤ 64) × (1 ≤ w) × (w ≤ 1024) × (carts * w ≤ length cells)
+  array_there : (1 ≤ x.steps) × (x.carts * x.steps ≤ length x.cells.now)
   array_there =
       let few : length (path_cells plan.paths) ≤ 8192 = omega (arith, even_cells plan.paths even, even.few_cells) in
-      let long : length cells ≡ 8192 = ap length h.cells_are ∙ padded_length 8192 (path_cells plan.paths) few in
-      let count : length plan.paths ≡ carts = its_sound.path_each ∙ sym h.carts_are in
-      let most : carts * w ≤ 8192 = subst (λ (x : ℕ). x * w ≤ 8192) count (subst (λ (x : ℕ). length plan.paths * x ≤ 8192) (sym h.steps_are) even.few_cells) in (
-        omega (arith, h.carts_are, its_sound.few_carts),
-        some_steps s edges speeds cells roads carts w reports h,
-        omega (arith, h.steps_are, even.few_steps),
-        omega arith,
-      )
+      let long : length x.cells.now ≡ 8192 = ap length (ec ∙ h.cells_are) ∙ padded_length 8192 (path_cells plan.paths) few in
+      let count : length plan.paths ≡ x.carts = its_sound.path_each ∙ sym carts_are in
+      let most : x.carts * x.steps ≤ 8192 = subst (λ (i : ℕ). i * x.steps ≤ 8192) count (subst (λ (i : ℕ). length plan.paths * i ≤ 8192) (sym steps_are) even.few_cells) in
+      (omega (arith, ew, some_steps s a n h), omega arith)
 
   -- how many events it has
-  counted : event_count plan ≡ 2 + carts + 3 * total moves (paths_in carts w cells)
+  counted : event_count plan ≡ 2 + x.carts + 3 * moves_of x
   counted =
       omega (
         arith,
         events_are plan (sym its_sound.path_each),
-        ap (total path_points) (sym (paths_there s edges speeds cells roads carts w reports h)),
-        all_events carts w cells array_there.1 array_there.3,
+        ap (total path_points) (sym its_paths),
+        all_events x.carts x.steps x.cells.now array_there.0 array_there.1,
       )
 
   -- no more than may be
-  pub events_few : 2 + carts + 3 * total moves (paths_in carts w cells) ≤ 4096
-  events_few = omega (arith, counted, (judged h.plan_held.tables plan (accepted_there s edges speeds cells roads carts w reports h)).1)
+  events_few : 2 + x.carts + 3 * moves_of x ≤ 4096
+  events_few = omega (arith, counted, (judged h.plan_held.tables plan (accepted_there s a n h)).1)
 
-  module _ (time : ℕ → ℕ) where
-    -- the text of the paths is that of the plan
-    same_text : lines_text time (1 + carts + 3 * total moves (paths_in carts w cells)) (paths_in carts w cells) ≡ times_text plan time
-    same_text =
-        let n : ℕ = 1 + carts + 3 * total moves (paths_in carts w cells) in
-        ap (lines_text time n) (paths_there s edges speeds cells roads carts w reports h)
-        ∙ text_is time plan (sym its_sound.path_each) n (omega (arith, counted))
+  -- the text of the paths is that of the plan
+  same_text : (time : ℕ → ℕ) → lines_text time (1 + (x.carts + 3 * moves_of x)) (paths_of x) ≡ times_text plan time
+  same_text time =
+      let finish : ℕ = 1 + (x.carts + 3 * moves_of x) in
+      ap (lines_text time finish) its_paths ∙ text_is time plan (sym its_sound.path_each) finish (omega (arith, counted))
 
-    -- there is room for it
-    pub plan_room : (out : List ℕ) → 348_245 ≤ length out
-        → length (lines_text time (1 + carts + 3 * total moves (paths_in carts w cells)) (paths_in carts w cells)) ≤ length out
-    plan_room out r = omega (arith, ap length same_text, text_most time plan (omega (arith, counted, events_few)))
-
-    -- it is put
-    pub plan_put : (out t : List ℕ) (k : ℕ) → Put out 0 (lines_text time (1 + carts + 3 * total moves (paths_in carts w cells)) (paths_in carts w cells)) t k
-        → (x : Held) → held s ≡ some x → Put out 0 (times_text x.plan time) t k
-    plan_put out t k q x e =
-        let one : h.plan_held ≡ x = some-injective _ _ (sym h.of_slice ∙ e) in
-        put_as (same_text ∙ ap (λ (y : Held). times_text y.plan time) one) q
+  pub held_paths : HeldPaths s x
+  held_paths =
+      record {
+        cells = array_there;
+        few = events_few;
+        short = λ time. omega (arith, ap length (same_text time), text_most time plan (omega (arith, counted, events_few)));
+        text = λ time g e. same_text time ∙ ap (λ (y : Held). times_text y.plan time) (some-injective _ _ (sym h.of_slice ∙ e));
+      }

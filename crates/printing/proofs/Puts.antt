@@ -1,120 +1,105 @@
--- Bytes put into a slice, one piece behind the other. Assumes nothing.
-use Prim.Native.Nat.{ℕ, ◌+◌, ◌≤◌, ◌<◌}
-use native.Mathlib.Numerals.{add-one}
+-- Texts put into a slice, one behind the other. Assumes nothing.
+use Prim.Native.Nat.{ℕ, ◌+◌}
 use native.Mathlib.Omega.{arith}
-use mathlib.Core.Path.{◌≡◌, refl, ap, sym, ◌∙◌, subst}
-use mathlib.Core.List.{List, [], ◌∷◌, ◌++◌}
-use lib.ListN.{length, drop, get_or, set, length-append}
-use lib.Seq.{sets, length-sets, drop-cons}
+use mathlib.Core.Path.{◌≡◌, refl, ap, ap₂, sym, ◌∙◌, subst}
+use mathlib.Core.List.{List, [], ◌++◌, append_assoc, append-nil}
+use lib.ListN.{length, take, drop, length-append}
+use lib.Seq.{sets, sets-eq, length-sets, drop-drop}
+use borrow.Rule.Slice.PartMut.{put_mid}
 use Rattle.network.proofs.BoundStores.{sets_append}
-use Rattle.printing.specs.Lines.{Put}
+use Rattle.words.specs.Words.{word_at}
+use Rattle.printing.specs.declared.lines.Out.{Out}
+use Rattle.printing.specs.declared.events.Lines.{Lines}
+use Rattle.printing.specs.Lines.{HasRoom, Puts, ByEvent, text_at, Fits, Prints}
 
--- one byte
-pub put_one : (s : List ℕ) (at b : ℕ) (t : List ℕ) (k : ℕ) → t ≡ set s at b → k ≡ at + 1 → Put s at (b ∷ []) t k
-put_one s at b t k e q = record { stored = e; behind = q }
+module _ {o p : Out} where
+  -- the same text by another name
+  pub puts_as : {a b : List ℕ} → a ≡ b → Puts o a p → Puts o b p
+  puts_as e h = subst (λ x. Puts o x p) e h
 
--- a piece behind another
-pub put_then : {s : List ℕ} {at : ℕ} {a t : List ℕ} {m : ℕ} {b u : List ℕ} {k : ℕ} → Put s at a t m → Put t m b u k → Put s at (a ++ b) u k
-put_then {s} {at} {a} {t} {m} {b} {u} {k} p q =
+  -- the same slice by another name
+  pub puts_to : {a : List ℕ} {q : Out} → Puts o a p → q ≡ p → Puts o a q
+  puts_to {a} h e = subst (Puts o a) (sym e) h
+
+  -- a text behind another
+  pub puts_then : {q : Out} {a b : List ℕ} → Puts o a p → Puts p b q → Puts o (a ++ b) q
+  puts_then {q} {a} {b} h k =
+      record {
+        same = k.same ∙ h.same;
+        stored = k.stored ∙ ap₂ (λ x n. sets x n b) h.stored h.behind ∙ sym (sets_append a b o.bytes.now o.at);
+        behind = omega (arith, length-append a b);
+        long = k.long ∙ h.long;
+      }
+
+-- a text copied between the bytes before it and those behind
+pub text_puts : (o p : Out) (k : ℕ) (text w : List ℕ) → p.bytes.ghost_name ≡ o.bytes.ghost_name → p.bytes.now ≡ put_mid o.at k o.bytes.now w → p.at ≡ o.at + length text
+    → w ≡ text → k ≡ length text → HasRoom o text → Puts o text p
+text_puts o p k text w same copied behind e q h =
+    let s : List ℕ = o.bytes.now in
+    let stored : p.bytes.now ≡ sets s o.at text =
+    copied ∙ ap₂ (λ (j : ℕ) (x : List ℕ). put_mid o.at j s x) q e ∙ ap (λ (x : List ℕ). take o.at s ++ (text ++ x)) (drop-drop (length text) o.at s)
+    ∙ sym (append_assoc (take o.at s) text (drop (o.at + length text) s)) ∙ sym (sets-eq text s o.at h) in
+    record { same = same; stored = stored; behind = behind; long = ap length stored ∙ length-sets s o.at text }
+
+-- ---- lines
+
+-- lines behind others: their number and the times are what the others leave
+pub prints_then : {l m n : Lines} {k j : ℕ} (a b : ByEvent) → Prints l a k m → Prints m b j n
+    → Prints l (λ time e. a time e ++ b time (e + k)) (k + j) n
+prints_then {l} {m} {n} {k} {j} a b p q =
     record {
-      stored = q.stored ∙ ap (λ (x : List ℕ). sets x m b) p.stored ∙ ap (λ (n : ℕ). sets (sets s at a) n b) p.behind ∙ sym (sets_append a b s at);
-      behind = omega (arith, p.behind, q.behind, length-append a b);
+      same = q.same ∙ p.same;
+      puts = puts_then p.puts (puts_as (ap₂ (λ (s : List ℕ) (e : ℕ). b (word_at 8 s) e) p.times p.event) q.puts);
+      times = q.times ∙ p.times;
+      event = omega arith;
     }
 
--- the slice keeps its length
-pub put_length : {s : List ℕ} {at : ℕ} {a t : List ℕ} {k : ℕ} → Put s at a t k → length t ≡ length s
-put_length {s} {at} {a} p = ap length p.stored ∙ length-sets s at a
+-- ---- lines still to be put, one turn of a loop after the other
 
--- the same text by another name
-pub put_as : {s : List ℕ} {at : ℕ} {a b t : List ℕ} {k : ℕ} → a ≡ b → Put s at a t k → Put s at b t k
-put_as {s} {at} {a} {b} {t} {k} e p = subst (λ (x : List ℕ). Put s at x t k) e p
-
--- the same slice and place by other names
-pub put_to : {s : List ℕ} {at : ℕ} {a t : List ℕ} {k : ℕ} → Put s at a t k → (u : List ℕ) (m : ℕ) → u ≡ t → m ≡ k → Put s at a u m
-put_to p u m e q = record { stored = e ∙ p.stored; behind = q ∙ p.behind }
-
--- ---- room
-
--- where there is room for two pieces there is for the first
-pub room_first : (s : List ℕ) (at : ℕ) (a b : List ℕ) → at + length (a ++ b) ≤ length s → at + length a ≤ length s
-room_first s at a b h = omega (arith, length-append a b)
-
--- and for the second behind it
-pub room_behind : {s : List ℕ} {at : ℕ} {a t : List ℕ} {m : ℕ} (b : List ℕ) → at + length (a ++ b) ≤ length s → Put s at a t m → m + length b ≤ length t
-room_behind {s} {at} {a} {t} {m} b h p = omega (arith, length-append a b, put_length p, p.behind)
-
--- three pieces, one behind the other
-module _ (s : List ℕ) (at : ℕ) (a b c : List ℕ) (h : at + length (a ++ (b ++ c)) ≤ length s) {t : List ℕ} {k : ℕ} (p : Put s at a t k) where
-  pub three_2 : k + length b ≤ length t
-  three_2 = room_first t k b c (room_behind (b ++ c) h p)
-
-  pub three_3 : {u : List ℕ} {l : ℕ} → Put t k b u l → l + length c ≤ length u
-  three_3 q = room_behind c (room_behind (b ++ c) h p) q
-
--- four
-module _ (s : List ℕ) (at : ℕ) (a b c d : List ℕ) (h : at + length (a ++ (b ++ (c ++ d))) ≤ length s) {t : List ℕ} {k : ℕ} (p : Put s at a t k) where
-  pub four_2 : k + length b ≤ length t
-  four_2 = three_2 s at a b (c ++ d) h p
-
-  pub four_3 : {u : List ℕ} {l : ℕ} → Put t k b u l → l + length c ≤ length u
-  four_3 {u} {l} q = room_first u l c d (three_3 s at a b (c ++ d) h p q)
-
-  pub four_4 : {u : List ℕ} {l : ℕ} → Put t k b u l → {v : List ℕ} {m : ℕ} → Put u l c v m → m + length d ≤ length v
-  four_4 q r = room_behind d (three_3 s at a b (c ++ d) h p q) r
-
--- ---- pieces still to be put, one turn of a loop after the other
-
--- what stands there once the rest is put: the slice was s at first and is t
-pub record Putting (s : List ℕ) (k : ℕ) (whole t : List ℕ) (j : ℕ) (rest : List ℕ) : Type 0 where
-  pub stored : sets t j rest ≡ sets s k whole
-  pub behind : j + length rest ≡ k + length whole
-  pub long : length t ≡ length s
+-- some text is put since l, and m reached: to be put are these lines yet, of j events, where all are of k events
+pub record Printing (l : Lines) (whole : ByEvent) (k : ℕ) (m : Lines) (rest : ByEvent) (j : ℕ) : Type 0 where
+  pub done : List ℕ
+  pub same : m.out.ghost_name ≡ l.out.ghost_name
+  pub puts : Puts l.out.now done m.out.now
+  pub all : text_at whole l ≡ done ++ text_at rest m
+  pub times : m.times.now ≡ l.times.now
+  pub event : m.event + j ≡ l.event + k
 
 -- nothing is put yet
-pub put_none : (s : List ℕ) (k : ℕ) (whole : List ℕ) → Putting s k whole s k whole
-put_none s k whole = record { stored = refl; behind = refl; long = refl }
+pub printing_none : (l : Lines) (whole : ByEvent) (k : ℕ) → Printing l whole k l whole k
+printing_none l whole k =
+    record {
+      done = [];
+      same = refl;
+      puts = record { same = refl; stored = refl; behind = omega arith; long = refl };
+      all = refl;
+      times = refl;
+      event = refl;
+    }
 
-module _ {s : List ℕ} {k : ℕ} {whole t : List ℕ} {j : ℕ} {rest : List ℕ} (w : Putting s k whole t j rest) where
+module _ {l m : Lines} {whole rest : ByEvent} {k j : ℕ} (w : Printing l whole k m rest j) where
   -- the same is still to be put
-  pub put_same : (more : List ℕ) → rest ≡ more → Putting s k whole t j more
-  put_same more e = subst (λ (x : List ℕ). Putting s k whole t j x) e w
+  pub printing_same : (more : ByEvent) (i : ℕ) → text_at rest m ≡ text_at more m → j ≡ i → Printing l whole k m more i
+  printing_same more i e q = record { done = w.done; same = w.same; puts = w.puts; all = w.all ∙ ap (λ x. w.done ++ x) e; times = w.times; event = omega arith }
 
-  -- in the same slice and place by other names
-  pub put_on : (u : List ℕ) (m : ℕ) → u ≡ t → m ≡ j → Putting s k whole u m rest
-  put_on u m e q =
+  -- the next lines are put
+  pub printing_more : {a : ByEvent} {i : ℕ} {n : Lines} (more : ByEvent) (j' : ℕ) → text_at rest m ≡ text_at a m ++ more (word_at 8 m.times.now) (m.event + i) → j ≡ i + j'
+      → Prints m a i n → Printing l whole k n more j'
+  printing_more {a} {i} {n} more j' e q p =
       record {
-        stored = ap (λ (x : List ℕ). sets x m rest) e ∙ ap (λ (n : ℕ). sets t n rest) q ∙ w.stored;
-        behind = omega (arith, q, w.behind);
-        long = ap length e ∙ w.long;
+        done = w.done ++ text_at a m;
+        same = p.same ∙ w.same;
+        puts = puts_then w.puts p.puts;
+        all = w.all ∙ ap (λ x. w.done ++ x) (e ∙ ap₂ (λ (s : List ℕ) (x : ℕ). text_at a m ++ more (word_at 8 s) x) (sym p.times) (sym p.event)) ∙ sym (append_assoc w.done (text_at a m) (text_at more n));
+        times = p.times ∙ w.times;
+        event = omega arith;
       }
 
-  -- the next piece is put
-  pub put_more : (a more : List ℕ) → rest ≡ a ++ more → {u : List ℕ} {m : ℕ} → Put t j a u m → Putting s k whole u m more
-  put_more a more e {u} {m} p =
-      record {
-        stored = ap (λ (x : List ℕ). sets x m more) p.stored ∙ ap (λ (n : ℕ). sets (sets t j a) n more) p.behind ∙ sym (sets_append a more t j)
-            ∙ ap (λ (x : List ℕ). sets t j x) (sym e) ∙ w.stored;
-        behind = omega (arith, p.behind, w.behind, length-append a more, ap length e);
-        long = put_length p ∙ w.long;
-      }
+  -- there is room for them
+  pub printing_room : (a : ByEvent) (more : List ℕ) → text_at rest m ≡ text_at a m ++ more → Fits l whole → Fits m a
+  printing_room a more e h = omega (arith, ap length w.all, ap length e, length-append w.done (text_at rest m), length-append (text_at a m) more)
 
-  -- there is room for it
-  pub put_room : (a more : List ℕ) → rest ≡ a ++ more → k + length whole ≤ length s → j + length a ≤ length t
-  put_room a more e h = omega (arith, w.behind, w.long, length-append a more, ap length e)
-
-  -- all is put
-  pub put_all : rest ≡ [] → Put s k whole t j
-  put_all e = record { stored = ap (λ (x : List ℕ). sets t j x) (sym e) ∙ w.stored; behind = omega (arith, w.behind, ap length e) }
-
--- ---- a text put byte by byte
-
--- nothing yet
-pub text_none : (s : List ℕ) (at : ℕ) (text : List ℕ) → Putting s at text s (at + 0) (drop 0 text)
-text_none s at text = let e : at ≡ at + 0 = omega arith in subst (λ (n : ℕ). Putting s at text s n text) e (put_none s at text)
-
--- the i-th byte
-pub text_one : (s : List ℕ) (at : ℕ) (text t : List ℕ) (i : ℕ) → i < length text → Putting s at text t (at + i) (drop i text)
-    → Putting s at text (set t (at + i) (get_or text i 0)) (at + (i + 1)) (drop (i + 1) text)
-text_one s at text t i h w =
-    let next : drop i text ≡ get_or text i 0 ∷ drop (i + 1) text = drop-cons text i 0 h ∙ ap (λ (n : ℕ). get_or text i 0 ∷ drop n text) (sym (add-one i)) in
-    put_more w (get_or text i 0 ∷ []) (drop (i + 1) text) next (put_one t (at + i) (get_or text i 0) _ _ refl (omega arith))
+  -- all are put
+  pub printing_all : text_at rest m ≡ [] → j ≡ 0 → Prints l whole k m
+  printing_all e q =
+      record { same = w.same; puts = puts_as (sym (w.all ∙ ap (λ x. w.done ++ x) e ∙ append-nil w.done)) w.puts; times = w.times; event = omega arith }

@@ -1,8 +1,8 @@
 -- Texts that document 01 prints, and numbers of several lengths. Assumes nothing.
+use Rattle.std.specs.Prelude.{None}
 use Prim.Native.Nat.{ℕ}
 use mathlib.Core.Path.{◌≡◌, refl}
 use mathlib.Core.List.{[], ◌∷◌, map}
-use mathlib.Core.Option.{none}
 use lib.ListN.{get_or}
 use Rattle.rfc4180.specs.Text.{bytes}
 use Rattle.floor.specs.Plan.{Plan}
@@ -20,7 +20,7 @@ one_cart : Plan
 one_cart =
     record {
       roads = record { from = 0; to = 1; length = 1_000_000; margin = 250_000 } ∷ [];
-      carts = record { fastest = 250_000; slowest = none } ∷ [];
+      carts = record { fastest = 250_000; slowest = None } ∷ [];
       paths = (0 ∷ 1 ∷ []) ∷ [];
     }
 
@@ -35,7 +35,7 @@ two_carts : Plan
 two_carts =
     record {
       roads = record { from = 0; to = 1; length = 1_000_000; margin = 250_000 } ∷ [];
-      carts = record { fastest = 250_000; slowest = none } ∷ record { fastest = 62_500; slowest = none } ∷ [];
+      carts = record { fastest = 250_000; slowest = None } ∷ record { fastest = 62_500; slowest = None } ∷ [];
       paths = (0 ∷ 0 ∷ []) ∷ (1 ∷ 2 ∷ []) ∷ [];
     }
 

@@ -1,98 +1,111 @@
 // The lines of all events, from paths in an array: cart by cart, step by step.
-ghost use Rattle.std.specs.Prelude.{◌≡◌, ◌+◌, ◌*◌, ◌≤◌, ◌<◌, length, take, drop};
+ghost use Rattle.std.specs.Prelude.{◌≡◌, ◌+◌, ◌*◌, ◌≤◌, ◌<◌, length};
 ghost use Rattle.words.specs.Words.{word_at};
-ghost use Rattle.tables.specs.Arrays.{paths_in};
-ghost use Rattle.limits.specs.Counts.{total, moves};
-ghost use Rattle.printing.specs.Lines.{Put, path_lines, paths_lines, lines_text};
+ghost use Rattle.collisions.specs.Meetings.{paths_of};
+ghost use Rattle.limits.specs.Counts.{moves};
+ghost use Rattle.limits.specs.OfPaths.{moves_of};
+ghost use Rattle.printing.specs.Lines.{HasRoom, Puts, Fits, Prints, point_line, outer_line, move_lines, path_lines, paths_lines, lines_text};
 
-use crate::lines;
+use crate::lines::Out;
+use collisions::Paths;
 
-// Where the next line is to be put, and the number of its event.
+// Where lines are put, the times of all events, and the number of the next.
 #[derive(Drop)]
-struct Reached {
-    place: usize,
-    event: usize,
+struct Lines<'a, 'b> {
+    out: &'a mut Out<'b>,
+    times: &'a [u8],
+    event: u16,
 }
 
-// Puts the lines of the path at place `at` of an array, a path of cart j whose first event is e, from place k on. Waits leave no event.
-fn put_path(
-    out: &mut [u8],
-    k: usize,
-    times: &[u8],
-    e: usize,
-    j: usize,
-    cells: &[u32],
-    at: usize,
-    steps: usize,
-) -> Reached
-    requires le_steps { (1 ≤ steps) × (steps ≤ 1024) × (at + steps ≤ length cells.now) }
-    requires cells_bound { e + 3 * moves (take steps (drop at cells.now)) < 4096 }
-    requires cells_in_bounds { k + length (path_lines (word_at 8 times.now) e j (take steps (drop at cells.now))) ≤ length out.old }
-    ensures text { Put out.old k (path_lines (word_at 8 times.now) e j (take steps (drop at cells.now))) out.new result.place }
-    ensures event { result.event ≡ e + 3 * moves (take steps (drop at cells.now)) + 1 }
-{
-    let mut c = cells[at];
-    let mut place = lines::put_point(out, k, times, e, j, c);
-    let mut event = e + 1;
-    let mut s: usize = 1;
-    while s < steps {
-        let d = cells[at + s];
-        if c != d {
-            place = lines::put_move(out, place, times, event, j, c, d);
-            event += 3;
+impl<'a, 'b> Lines<'a, 'b> {
+    // Puts the line of a point of a cart, at a cell.
+    #[tactic(auto, unfolding(crate::specs::Lines::point_line))]
+    fn point(&mut self, cart: usize, cell: u32)
+        requires few { self.old.event < 4096 }
+        requires room { Fits self.old (point_line cart cell) }
+        ensures { Prints self.old (point_line cart cell) 1 self.new }
+    {
+        self.out.field(u64::from(self.event));
+        // `as`, since a usize has no `From` to a u64.
+        self.out.field(cart as u64);
+        self.out.field(u64::from(cell));
+        self.out
+            .ending(words::get64(self.times, usize::from(self.event)));
+        self.event += 1;
+    }
+
+    // Puts the line of the start or the finish: cart 0 and no cell.
+    #[tactic(auto, unfolding(crate::specs::Lines::outer_line))]
+    fn outer(&mut self)
+        requires few { self.old.event < 4096 }
+        requires room { Fits self.old outer_line }
+        ensures { Prints self.old outer_line 1 self.new }
+    {
+        let time = words::get64(self.times, usize::from(self.event));
+        self.out.field(u64::from(self.event));
+        self.out.field(0);
+        self.out.text(b",");
+        self.out.ending(time);
+        self.event += 1;
+    }
+
+    // Puts the lines of a move of a cart: the leave point of the one cell, the approach point and the entry of the other.
+    #[tactic(auto, unfolding(crate::specs::Lines::move_lines))]
+    fn moves(&mut self, cart: usize, from: u32, to: u32)
+        requires few { self.old.event + 3 ≤ 4096 }
+        requires room { Fits self.old (move_lines cart from to) }
+        ensures { Prints self.old (move_lines cart from to) 3 self.new }
+    {
+        self.point(cart, from);
+        self.point(cart, to);
+        self.point(cart, to);
+    }
+
+    // Puts the lines of a cart's path. Waits leave no event.
+    fn path(&mut self, cart: usize, path: &[u32])
+        requires some { 1 ≤ length path.now }
+        requires few { self.old.event + 3 * moves path.now < 4096 }
+        requires room { Fits self.old (path_lines cart path.now) }
+        ensures { Prints self.old (path_lines cart path.now) (3 * moves path.now + 1) self.new }
+    {
+        self.point(cart, path[0]);
+        for step in path.windows(2) {
+            if step[0] != step[1] {
+                self.moves(cart, step[0], step[1]);
+            }
         }
-        c = d;
-        s += 1;
     }
-    Reached { place, event }
+
+    // Puts the lines of all paths, cart by cart.
+    fn paths(&mut self, paths: Paths)
+        requires carts_bound { (1 ≤ paths.steps) × (paths.carts * paths.steps ≤ length paths.cells.now) }
+        requires few { self.old.event + paths.carts + 3 * moves_of paths < 4096 }
+        requires room { Fits self.old (paths_lines 1 (paths_of paths)) }
+        ensures { Prints self.old (paths_lines 1 (paths_of paths.entry)) (paths.entry.carts + 3 * moves_of paths.entry) self.new }
+    {
+        // By places, since chunks would have to be cut off behind the last path.
+        for i in 0..paths.carts {
+            let at = i * paths.steps;
+            self.path(i + 1, &paths.cells[at..at + paths.steps]);
+        }
+    }
 }
 
-// Puts the lines of all paths, cart by cart, from place k on.
-fn put_paths(
-    out: &mut [u8],
-    k: usize,
-    times: &[u8],
-    cells: &[u32],
-    carts: usize,
-    steps: usize,
-) -> Reached
-    requires carts_bound { (carts ≤ 64) × (1 ≤ steps) × (steps ≤ 1024) × (carts * steps ≤ length cells.now) }
-    requires cells_bound { 2 + carts + 3 * total moves (paths_in carts steps cells.now) ≤ 4096 }
-    requires cells_in_bounds { k + length (paths_lines (word_at 8 times.now) 1 1 (paths_in carts steps cells.now)) ≤ length out.old }
-    ensures text { Put out.old k (paths_lines (word_at 8 times.now) 1 1 (paths_in carts steps cells.now)) out.new result.place }
-    ensures event { result.event ≡ 1 + carts + 3 * total moves (paths_in carts steps cells.now) }
+// Puts the times of paths, whole: a first line, the start, the paths, the finish.
+#[tactic(auto, unfolding(crate::specs::Lines::lines_text, rfc4180::specs::Text::bytes))]
+pub(crate) fn put_times(out: &mut Out, times: &[u8], paths: Paths)
+    requires carts_bound { (1 ≤ paths.steps) × (paths.carts * paths.steps ≤ length paths.cells.now) }
+    requires few { 2 + paths.carts + 3 * moves_of paths ≤ 4096 }
+    requires room { HasRoom out.old (lines_text (word_at 8 times.now) (1 + (paths.carts + 3 * moves_of paths)) (paths_of paths)) }
+    ensures { Puts out.old (lines_text (word_at 8 times.now) (1 + (paths.entry.carts + 3 * moves_of paths.entry)) (paths_of paths.entry)) out.new }
 {
-    let mut place = k;
-    let mut event: usize = 1;
-    let mut i: usize = 0;
-    let mut at: usize = 0;
-    while i < carts {
-        let next = put_path(out, place, times, event, i + 1, cells, at, steps);
-        place = next.place;
-        event = next.event;
-        at += steps;
-        i += 1;
-    }
-    Reached { place, event }
-}
-
-// Puts the times of paths in an array, whole: a first line, the start, the paths, the finish.
-pub(crate) fn put_times(
-    out: &mut [u8],
-    times: &[u8],
-    cells: &[u32],
-    carts: usize,
-    steps: usize,
-) -> usize
-    requires carts_bound { (carts ≤ 64) × (1 ≤ steps) × (steps ≤ 1024) × (carts * steps ≤ length cells.now) }
-    requires cells_bound { 2 + carts + 3 * total moves (paths_in carts steps cells.now) ≤ 4096 }
-    requires cells_in_bounds { length (lines_text (word_at 8 times.now) (1 + carts + 3 * total moves (paths_in carts steps cells.now)) (paths_in carts steps cells.now)) ≤ length out.old }
-    ensures { Put out.old 0 (lines_text (word_at 8 times.now) (1 + carts + 3 * total moves (paths_in carts steps cells.now)) (paths_in carts steps cells.now)) out.new result }
-{
-    let k = lines::put_text(out, 0, b"event,cart,cell,time\r\n");
-    let k = lines::put_outer(out, k, times, 0);
-    let last = put_paths(out, k, times, cells, carts, steps);
-    let place = last.place;
-    let event = last.event;
-    lines::put_outer(out, place, times, event)
+    out.text(b"event,cart,cell,time\r\n");
+    let mut lines = Lines {
+        out,
+        times,
+        event: 0,
+    };
+    lines.outer();
+    lines.paths(paths);
+    lines.outer();
 }

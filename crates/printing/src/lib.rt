@@ -5,103 +5,95 @@ mod events;
 mod lines;
 
 ghost use Rattle.std.specs.Prelude.{◌≡◌, ◌≤◌, length};
-ghost use Rattle.std.proofs.Math.Option.{some};
 ghost use Rattle.words.specs.Words.{word_at};
 ghost use Rattle.floor.specs.Refusal.{reason_number, table_number};
+ghost use Rattle.tables.specs.Lending.{tables_of};
 ghost use Rattle.schedule.specs.Timetable.{timetable};
 ghost use Rattle.slice.specs.PlanSlice.{Held, held};
 ghost use Rattle.printing.specs.Text.{times_text, refusal_text};
-ghost use Rattle.printing.specs.Lines.{Put};
+ghost use Rattle.printing.specs.Lines.{Puts, HasAllRoom};
 ghost use Rattle.printing.specs.Output.{timed_output, output, print};
 
+use crate::lines::Out;
 use floor::Refusal;
-use hegtalim::{Loaded, Timed};
-use slice::Holding;
-
-// What is answered: how many bytes are printed.
-#[derive(Drop)]
-pub enum Printed {
-    TooShort,
-    Bytes(usize),
-}
+use hegtalim::{LoadError, TimeError};
+use passes::Lent;
+use tables::{PlanArrays, Tables};
 
 // Puts a refusal of tables: its number, the table and the record.
-fn put_refusal(out: &mut [u8], why: Refusal) -> usize
-    requires { 348245 ≤ length out.old }
-    ensures { Put out.old 0 (refusal_text (reason_number why.reason) (table_number why.table) why.row) out.new result }
+#[tactic(auto, using(crate::proofs::Digits::field_most, crate::proofs::Digits::ending_most))]
+fn put_refusal(out: &mut Out, why: Refusal)
+    requires { HasAllRoom out.old }
+    ensures { Puts out.old (refusal_text (reason_number why.reason) (table_number why.table) why.row) out.new }
 {
-    let reason = why.reason;
-    let table = why.table;
-    let row = why.row as u64;
-    let k = lines::put_text(out, 0, b"refusal,table,record\r\n");
-    let k = lines::put_field(out, k, floor::reason_number(reason));
-    let k = lines::put_field(out, k, floor::table_number(table));
-    lines::put_ending(out, k, row)
+    out.text(b"refusal,table,record\r\n");
+    out.field(u64::from(why.reason));
+    out.field(u64::from(why.table));
+    // `as`, since a usize has no `From` to a u64.
+    out.ending(why.row as u64);
 }
 
 // Puts the times of the plan that a slice holds; the times themselves are in another.
-fn put_plan(out: &mut [u8], plan: &[u8], times: &[u8]) -> usize
-    requires { (348245 ≤ length out.old) × (233472 ≤ length plan.now) }
-    ensures { (h : Held) → held plan.now ≡ some h → Put out.old 0 (times_text h.plan (word_at 8 times.now)) out.new result }
+fn put_plan(out: &mut Out, plan: &[u8], times: &[u8])
+    requires { HasAllRoom out.old × (233472 ≤ length plan.now) }
+    ensures { (h : Held) → held plan.now ≡ Some h → Puts out.old (times_text h.plan (word_at 8 times.now)) out.new }
 {
     let mut edges = [0u32; 4096];
     let mut speeds = [0u32; 128];
     let mut cells = [0u32; 8192];
-    let x = slice::read_plan(plan, &mut edges, &mut speeds, &mut cells);
-    match x {
-        Holding::TooShort => 0,
-        Holding::NoPlan => 0,
-        Holding::Held {
-            roads: _,
-            carts: n,
-            steps: w,
-            reports: _,
-        } => events::put_times(out, times, &cells, n, w),
+    let mut arrays = PlanArrays {
+        edges: &mut edges,
+        speeds: &mut speeds,
+        cells: &mut cells,
+    };
+    if let Ok(held) = slice::read_plan(plan, &mut arrays) {
+        events::put_times(out, times, held.size.paths(&cells));
     }
 }
 
 // Puts what a timetable finds of the plan that a slice holds: its times, or refusal 13.
-fn put_timed(out: &mut [u8], plan: &[u8]) -> usize
-    requires { (348245 ≤ length out.old) × (233472 ≤ length plan.now) }
-    ensures { (h : Held) → held plan.now ≡ some h → Put out.old 0 (timed_output h.plan (timetable h.plan h.book)) out.new result }
+fn put_timed(out: &mut Out, plan: &[u8])
+    requires { HasAllRoom out.old × (233472 ≤ length plan.now) }
+    ensures { (h : Held) → held plan.now ≡ Some h → Puts out.old (timed_output h.plan (timetable h.plan h.book)) out.new }
 {
     let mut times = [0u8; 32768];
     let mut numbers = [0u8; 8192];
     let mut directions = [0u8; 4096];
-    let x = hegtalim::timetable(plan, &mut times, &mut numbers, &mut directions);
-    match x {
-        Timed::TooShort => 0,
-        Timed::NoPlan => 0,
-        Timed::NoTimes { length: _ } => lines::put_text(
-            out,
-            0,
-            b"refusal,table,record\r\n13,,\r\n",
-        ),
-        Timed::Times { passes: _ } => put_plan(out, plan, &times),
+    let mut lent = Lent {
+        times: &mut times,
+        chain_bounds: &mut numbers,
+        chain_directions: &mut directions,
+    };
+    match hegtalim::timetable(plan, &mut lent) {
+        Ok(_) => put_plan(out, plan, lent.times),
+        Err(TimeError::NoTimes(_)) => out.text(b"refusal,table,record\r\n13,,\r\n"),
+        Err(TimeError::TooShort) => {}
+        Err(TimeError::NoPlan) => {}
     }
 }
 
 // Puts what three tables come to: the refusal, or what a timetable finds of their plan, which is held in a slice lent for that.
-fn put_output(out: &mut [u8], roads: &[u8], carts: &[u8], paths: &[u8], plan: &mut [u8]) -> usize
-    requires { (348245 ≤ length out.old) × (233472 ≤ length plan.old) }
-    ensures { Put out.old 0 (output (record { roads = roads.entry.now; carts = carts.now; paths = paths.now })) out.new result }
+fn put_output(out: &mut Out, tables: Tables, plan: &mut [u8])
+    requires { HasAllRoom out.old × (233472 ≤ length plan.old) }
+    ensures { Puts out.old (output (tables_of tables.entry)) out.new }
 {
-    let x = hegtalim::load(roads, carts, paths, plan);
-    match x {
-        Loaded::TooShort => 0,
-        Loaded::Refused(why) => put_refusal(out, why),
-        Loaded::Held => put_timed(out, plan),
+    match hegtalim::load(tables, plan) {
+        Ok(()) => put_timed(out, plan),
+        Err(LoadError::Refused(why)) => put_refusal(out, why),
+        Err(LoadError::TooShort) => {}
     }
 }
 
-// Prints the times of the plan that three tables come to, or the refusal.
-pub fn print(roads: &[u8], carts: &[u8], paths: &[u8], out: &mut [u8]) -> Printed
-    ensures answer { result ≡ (print (record { roads = roads.entry.now; carts = carts.now; paths = paths.now }) out.old).answer }
-    ensures left { out.new ≡ (print (record { roads = roads.entry.now; carts = carts.now; paths = paths.now }) out.old).out }
+// Prints the times of the plan that three tables come to, or the refusal; how many bytes are printed, where there is room for any.
+pub fn print(tables: Tables, out: &mut [u8]) -> Option<usize>
+    ensures answer { result ≡ (print (tables_of tables.entry) out.old).answer }
+    ensures left { out.new ≡ (print (tables_of tables.entry) out.old).out }
 {
     if out.len() < 348_245 {
-        return Printed::TooShort;
+        return None;
     }
     let mut plan = [0u8; 233472];
-    Printed::Bytes(put_output(out, roads, carts, paths, &mut plan))
+    let mut lines = Out { bytes: out, at: 0 };
+    put_output(&mut lines, tables, &mut plan);
+    Some(lines.at)
 }

@@ -1,15 +1,16 @@
 -- A zero byte of a table lies in one of its records, a zero byte of a record in one of its fields, and a field that is a number has none.
 -- Assumes nothing.
+use Rattle.std.specs.Prelude.{Option, None, Some}
 use Prim.Native.Nat.{ℕ, ◌+◌, ◌*◌, ◌-◌}
 use native.Mathlib.Omega.{arith}
 use mathlib.Core.Path.{◌≡◌, refl, sym, ◌∙◌, subst}
 use mathlib.Core.Logic.{◌≢◌}
 use mathlib.Core.Bool.{Bool, true, false, ◌&&◌, not, cond}
 use mathlib.Core.List.{List, [], ◌∷◌}
-use mathlib.Core.Option.{Option, none, some, none-ne-some}
 use lib.Dec.{T, leb, eqb, eqb→eq, leb→le}
 use lib.ListN.{length}
 use mir.Facts.{and_yes, eqb_no}
+use Rattle.laws.proofs.Options.{none-ne-some}
 use Rattle.rfc4180.specs.Records.{push, pieces, unended, records, widen, fields}
 use Rattle.rfc4180.specs.Number.{decimal, number, numbers}
 
@@ -92,13 +93,13 @@ fields_nonzero (b ∷ bs) h = by (eqb b 44) refl (fields_nonzero bs) h
 -- ---- numbers
 
 -- decimal digits are not 0
-decimal_nonzero : (n : ℕ) (bs : List ℕ) (m : ℕ) → decimal n bs ≡ some m → NoZero bs
+decimal_nonzero : (n : ℕ) (bs : List ℕ) (m : ℕ) → decimal n bs ≡ Some m → NoZero bs
 unfolding decimal
 decimal_nonzero n [] m e = tt
 decimal_nonzero n (b ∷ bs) m e = by (leb 48 b && leb b 57) refl (decimal_nonzero (10 * n + (b - 48)) bs m) e
   where
-    by : (t : Bool) → (leb 48 b && leb b 57) ≡ t → (decimal (10 * n + (b - 48)) bs ≡ some m → NoZero bs)
-        → elim t [ true ↦ decimal (10 * n + (b - 48)) bs | false ↦ none ] ≡ some m
+    by : (t : Bool) → (leb 48 b && leb b 57) ≡ t → (decimal (10 * n + (b - 48)) bs ≡ Some m → NoZero bs)
+        → elim t [ true ↦ decimal (10 * n + (b - 48)) bs | false ↦ None ] ≡ Some m
         → (b ≢ 0) × NoZero bs
     by true q more e =
         let l = leb→le 48 b (and_yes (leb 48 b) (leb b 57) (subst T (sym q) tt)).0 in
@@ -106,26 +107,26 @@ decimal_nonzero n (b ∷ bs) m e = by (leb 48 b && leb b 57) refl (decimal_nonze
     by false q more e = absurd (none-ne-some _ e)
 
 -- a number has digits alone
-pub number_nonzero : (f : List ℕ) (n : ℕ) → number f ≡ some n → NoZero f
+pub number_nonzero : (f : List ℕ) (n : ℕ) → number f ≡ Some n → NoZero f
 unfolding number
 number_nonzero [] n e = tt
 number_nonzero (b ∷ []) n e = decimal_nonzero 0 (b ∷ []) n e
 number_nonzero (b ∷ c ∷ cs) n e = by (eqb b 48) (leb (length (b ∷ c ∷ cs)) 10) e
   where
-    by : (t u : Bool) → cond t none (cond u (decimal 0 (b ∷ c ∷ cs)) none) ≡ some n → NoZero (b ∷ c ∷ cs)
+    by : (t u : Bool) → cond t None (cond u (decimal 0 (b ∷ c ∷ cs)) None) ≡ Some n → NoZero (b ∷ c ∷ cs)
     by true u e = absurd (none-ne-some _ e)
     by false true e = decimal_nonzero 0 (b ∷ c ∷ cs) n e
     by false false e = absurd (none-ne-some _ e)
 
 -- and so have fields that are all numbers
-pub numbers_nonzero : (fs : List (List ℕ)) (ns : List ℕ) → numbers fs ≡ some ns → NoZeros fs
+pub numbers_nonzero : (fs : List (List ℕ)) (ns : List ℕ) → numbers fs ≡ Some ns → NoZeros fs
 unfolding numbers
 numbers_nonzero [] ns e = tt
 numbers_nonzero (f ∷ fs) ns e = by (number f) (numbers fs) refl refl (numbers_nonzero fs) e
   where
-    by : (o : Option ℕ) (os : Option (List ℕ)) → number f ≡ o → numbers fs ≡ os → ((ms : List ℕ) → numbers fs ≡ some ms → NoZeros fs)
-        → elim o [ none ↦ none | some n ↦ elim os [ none ↦ none | some ms ↦ some (n ∷ ms) ] ] ≡ some ns
+    by : (o : Option ℕ) (os : Option (List ℕ)) → number f ≡ o → numbers fs ≡ os → ((ms : List ℕ) → numbers fs ≡ Some ms → NoZeros fs)
+        → elim o [ None ↦ None | Some n ↦ elim os [ None ↦ None | Some ms ↦ Some (n ∷ ms) ] ] ≡ Some ns
         → NoZero f × NoZeros fs
-    by none os q qs more e = absurd (none-ne-some _ e)
-    by (some n) none q qs more e = absurd (none-ne-some _ e)
-    by (some n) (some ms) q qs more e = (number_nonzero f n q, more ms qs)
+    by None os q qs more e = absurd (none-ne-some _ e)
+    by (Some n) None q qs more e = absurd (none-ne-some _ e)
+    by (Some n) (Some ms) q qs more e = (number_nonzero f n q, more ms qs)

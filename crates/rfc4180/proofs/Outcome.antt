@@ -1,46 +1,49 @@
 -- What reading the fields of a record one after another gives, and that it is what `specs` says of all of them.
 -- Assumes nothing.
+use Rattle.std.specs.Prelude.{Option, None, Some, option_map}
 use Prim.Native.Nat.{ℕ, suc, ◌+◌, ◌≤◌, ◌<◌, max}
 use native.Mathlib.Omega.{arith}
 use mathlib.Core.Path.{◌≡◌, refl, ap, ap₂, sym, ◌∙◌, subst}
 use mathlib.Core.List.{List, [], ◌∷◌, ◌++◌, map, append_assoc}
-use mathlib.Core.Option.{Option, none, some}
 use lib.ListN.{length, take, drop, set, length-append}
 use lib.Seq.{set_at, set_out, take-nil}
 use Rattle.words.specs.Words.{written}
 use Rattle.rfc4180.specs.Records.{fields, field_at}
 use Rattle.rfc4180.specs.Number.{number, numbers, greatest, leading, capped}
-use Rattle.rfc4180.specs.Answers.{number_answer, fields_answer}
-use Rattle.rfc4180.specs.declared.Number.{Number}
-use Rattle.rfc4180.specs.declared.Fields.{Fields}
-use Rattle.rfc4180.proofs.Reading.{fields_more_at, fields_end_at, fields_begin, answered_value, answered_malformed}
+use Rattle.rfc4180.specs.Answers.{counted}
+use Rattle.rfc4180.specs.declared.Numbers.{Numbers}
+use Rattle.rfc4180.proofs.Reading.{fields_more_at, fields_end_at, fields_begin}
 
 -- an answer, and what the lent places then hold
 abbrev pub Outcome : Type 0
-Outcome = Fields × List ℕ
+Outcome = Option Numbers × List ℕ
+
+-- i numbers, of which g is the greatest
+abbrev said : ℕ → ℕ → Option Numbers
+said i g = Some (record { count = i; greatest = g })
 
 -- the fields from field i on, where g is the greatest number before
 unfoldable pub outcome : ℕ → ℕ → List (List ℕ) → List ℕ → Outcome
-outcome i g [] out = (Fields.Numbers i g, out)
-outcome i g (f ∷ fs) out = elim (number f) [ none ↦ (Fields.Malformed, out) | some v ↦ outcome (i + 1) (max g v) fs (set out i (capped v)) ]
+outcome i g [] out = (said i g, out)
+outcome i g (f ∷ fs) out = elim (number f) [ None ↦ (None, out) | Some v ↦ outcome (i + 1) (max g v) fs (set out i (capped v)) ]
 
 -- ---- what the fields after i others answer
 
-abbrev after : ℕ → ℕ → Option (List ℕ) → Fields
-after i g none = Fields.Malformed
-after i g (some ns) = Fields.Numbers (i + length ns) (max g (greatest ns))
+abbrev after : ℕ → ℕ → Option (List ℕ) → Option Numbers
+after i g None = None
+after i g (Some ns) = said (i + length ns) (max g (greatest ns))
 
-after_none : (i g : ℕ) → Fields.Numbers i g ≡ after i g (some [])
+after_none : (i g : ℕ) → said i g ≡ after i g (Some [])
 unfolding greatest
-after_none i g = let a : i ≡ i + 0 = omega arith in let b : g ≡ max g 0 = omega arith in ap₂ Fields.Numbers a b
+after_none i g = let a : i ≡ i + 0 = omega arith in let b : g ≡ max g 0 = omega arith in ap₂ said a b
 
-after_more : (i g v : ℕ) (os : Option (List ℕ)) → after (i + 1) (max g v) os ≡ after i g (elim os [ none ↦ none | some ns ↦ some (v ∷ ns) ])
+after_more : (i g v : ℕ) (os : Option (List ℕ)) → after (i + 1) (max g v) os ≡ after i g (elim os [ None ↦ None | Some ns ↦ Some (v ∷ ns) ])
 unfolding greatest
-after_more i g v none = refl
-after_more i g v (some ns) =
+after_more i g v None = refl
+after_more i g v (Some ns) =
     let a : i + 1 + length ns ≡ i + suc (length ns) = omega arith in
     let b : max (max g v) (greatest ns) ≡ max g (max v (greatest ns)) = omega arith in
-    ap₂ Fields.Numbers a b
+    ap₂ said a b
 
 outcome_answer_from : (fs : List (List ℕ)) (i g : ℕ) (out : List ℕ) → (outcome i g fs out).0 ≡ after i g (numbers fs)
 unfolding outcome numbers
@@ -48,21 +51,21 @@ outcome_answer_from [] i g out = after_none i g
 outcome_answer_from (f ∷ fs) i g out = by (number f) (outcome_answer_from fs)
   where
     by : (o : Option ℕ) → ((i g : ℕ) (out : List ℕ) → (outcome i g fs out).0 ≡ after i g (numbers fs))
-        → (elim o as (λ _. Outcome) [ none ↦ (Fields.Malformed, out) | some v ↦ outcome (i + 1) (max g v) fs (set out i (capped v)) ]).0
-        ≡ after i g (elim o as (λ _. Option (List ℕ)) [ none ↦ none | some n ↦ elim (numbers fs) [ none ↦ none | some ns ↦ some (n ∷ ns) ] ])
-    by none more = refl
-    by (some v) more = more (i + 1) (max g v) (set out i (capped v)) ∙ after_more i g v (numbers fs)
+        → (elim o as (λ _. Outcome) [ None ↦ (None, out) | Some v ↦ outcome (i + 1) (max g v) fs (set out i (capped v)) ]).0
+        ≡ after i g (elim o as (λ _. Option (List ℕ)) [ None ↦ None | Some n ↦ elim (numbers fs) [ None ↦ None | Some ns ↦ Some (n ∷ ns) ] ])
+    by None more = refl
+    by (Some v) more = more (i + 1) (max g v) (set out i (capped v)) ∙ after_more i g v (numbers fs)
 
-from_first : (o : Option (List ℕ)) → after 0 0 o ≡ fields_answer o
-unfolding fields_answer
-from_first none = refl
-from_first (some ns) =
+from_first : (o : Option (List ℕ)) → after 0 0 o ≡ option_map counted o
+unfolding counted
+from_first None = refl
+from_first (Some ns) =
     let a : 0 + length ns ≡ length ns = omega arith in
     let b : max 0 (greatest ns) ≡ greatest ns = omega arith in
-    ap₂ Fields.Numbers a b
+    ap₂ said a b
 
 -- all fields answer what the record answers
-pub outcome_answer : (fs : List (List ℕ)) (out : List ℕ) → (outcome 0 0 fs out).0 ≡ fields_answer (numbers fs)
+pub outcome_answer : (fs : List (List ℕ)) (out : List ℕ) → (outcome 0 0 fs out).0 ≡ option_map counted (numbers fs)
 outcome_answer fs out = outcome_answer_from fs 0 0 out ∙ from_first (numbers fs)
 
 -- ---- what the lent places hold
@@ -74,9 +77,9 @@ outcome_full [] i g out h = refl
 outcome_full (f ∷ fs) i g out h = by (number f) (outcome_full fs)
   where
     by : (o : Option ℕ) → ((i g : ℕ) (out : List ℕ) → length out ≤ i → (outcome i g fs out).1 ≡ out)
-        → (elim o as (λ _. Outcome) [ none ↦ (Fields.Malformed, out) | some v ↦ outcome (i + 1) (max g v) fs (set out i (capped v)) ]).1 ≡ out
-    by none more = refl
-    by (some v) more =
+        → (elim o as (λ _. Outcome) [ None ↦ (None, out) | Some v ↦ outcome (i + 1) (max g v) fs (set out i (capped v)) ]).1 ≡ out
+    by None more = refl
+    by (Some v) more =
         let e = set_out out i (capped v) h in
         let k : length (set out i (capped v)) ≤ i + 1 = omega (arith, ap (length {A = ℕ}) e) in
         more (i + 1) (max g v) (set out i (capped v)) k ∙ e
@@ -102,14 +105,14 @@ outcome_left_from [] i g front back h = ap (λ (x : List ℕ). front ++ x) (sym 
 outcome_left_from (f ∷ fs) i g front back h = by (number f) back (outcome_left_from fs)
   where
     by : (o : Option ℕ) (back : List ℕ) → LeftFrom fs
-        → (elim o as (λ _. Outcome) [ none ↦ (Fields.Malformed, front ++ back) | some v ↦ outcome (i + 1) (max g v) fs (set (front ++ back) i (capped v)) ]).1
-        ≡ front ++ written (take (length back) (map capped (elim o as (λ _. List ℕ) [ none ↦ [] | some n ↦ n ∷ leading fs ]))) back
-    by none back more = ap (λ (x : List ℕ). front ++ x) (sym (ap (λ (x : List ℕ). written x back) (take-nil (length back)) ∙ written_none back))
-    by (some v) [] more =
+        → (elim o as (λ _. Outcome) [ None ↦ (None, front ++ back) | Some v ↦ outcome (i + 1) (max g v) fs (set (front ++ back) i (capped v)) ]).1
+        ≡ front ++ written (take (length back) (map capped (elim o as (λ _. List ℕ) [ None ↦ [] | Some n ↦ n ∷ leading fs ]))) back
+    by None back more = ap (λ (x : List ℕ). front ++ x) (sym (ap (λ (x : List ℕ). written x back) (take-nil (length back)) ∙ written_none back))
+    by (Some v) [] more =
         let e = set_out (front ++ []) i (capped v) (omega (arith, length-append front [])) in
         ap (λ (x : List ℕ). (outcome (i + 1) (max g v) fs x).1) e ∙ outcome_full fs (i + 1) (max g v) (front ++ []) (omega (arith, length-append front []))
         ∙ ap (λ (x : List ℕ). front ++ x) (sym (written_none []))
-    by (some v) (y ∷ ys) more =
+    by (Some v) (y ∷ ys) more =
         let k : length (front ++ (capped v ∷ [])) ≡ i + 1 = omega (arith, length-append front (capped v ∷ [])) in
         ap (λ (x : List ℕ). (outcome (i + 1) (max g v) fs x).1) (set_at front y ys (capped v) i h ∙ sym (append_assoc front (capped v ∷ []) ys))
         ∙ more (i + 1) (max g v) (front ++ (capped v ∷ [])) ys k
@@ -127,19 +130,19 @@ module _ (r : List ℕ) (at : ℕ) (f : List ℕ) (here : f ≡ field_at r at) (
   begins = let (fs, e) = fields_begin r at in (fs, e ∙ ap (λ (x : List ℕ). x ∷ fs) (sym here))
 
   -- it is no number
-  pub outcome_bad : Number.Malformed ≡ number_answer (number f) → outcome i g (fields (drop at r)) out ≡ (Fields.Malformed, out)
+  pub outcome_bad : None ≡ number f → outcome i g (fields (drop at r)) out ≡ (None, out)
   unfolding outcome
   outcome_bad e =
       let (fs, b) = begins in
       ap (λ (x : List (List ℕ)). outcome i g x out) b
-      ∙ ap (λ (o : Option ℕ). elim o as (λ _. Outcome) [ none ↦ (Fields.Malformed, out) | some v ↦ outcome (i + 1) (max g v) fs (set out i (capped v)) ]) (answered_malformed (number f) e)
+      ∙ ap (λ (o : Option ℕ). elim o as (λ _. Outcome) [ None ↦ (None, out) | Some v ↦ outcome (i + 1) (max g v) fs (set out i (capped v)) ]) (sym e)
 
-  module _ (v : ℕ) (e : Number.Value v ≡ number_answer (number f)) {out' : List ℕ} (put : out' ≡ set out i (capped v)) {g' : ℕ} (high : g' ≡ max g v) where
+  module _ (v : ℕ) (e : Some v ≡ number f) {out' : List ℕ} (put : out' ≡ set out i (capped v)) {g' : ℕ} (high : g' ≡ max g v) where
     outcome_value : (fs : List (List ℕ)) → fields (drop at r) ≡ f ∷ fs → outcome i g (fields (drop at r)) out ≡ outcome (i + 1) g' fs out'
     unfolding outcome
     outcome_value fs b =
         ap (λ (x : List (List ℕ)). outcome i g x out) b
-        ∙ ap (λ (o : Option ℕ). elim o as (λ _. Outcome) [ none ↦ (Fields.Malformed, out) | some v ↦ outcome (i + 1) (max g v) fs (set out i (capped v)) ]) (answered_value (number f) v e)
+        ∙ ap (λ (o : Option ℕ). elim o as (λ _. Outcome) [ None ↦ (None, out) | Some v ↦ outcome (i + 1) (max g v) fs (set out i (capped v)) ]) (sym e)
         ∙ ap₂ (λ (m : ℕ) (o : List ℕ). outcome (i + 1) m fs o) (sym high) (sym put)
 
     -- it is a number and others follow
@@ -149,13 +152,13 @@ module _ (r : List ℕ) (at : ℕ) (f : List ℕ) (here : f ≡ field_at r at) (
         (subst (λ (x : List ℕ). at + length x < length r → fields (drop at r) ≡ x ∷ fields (drop (at + length x + 1) r)) (sym here) (fields_more_at r at) h)
 
     -- it is a number and the last
-    pub outcome_last : length r ≤ at + length f → outcome i g (fields (drop at r)) out ≡ (Fields.Numbers (i + 1) g', out')
+    pub outcome_last : length r ≤ at + length f → outcome i g (fields (drop at r)) out ≡ (said (i + 1) g', out')
     unfolding outcome
     outcome_last h =
         outcome_value [] (subst (λ (x : List ℕ). length r ≤ at + length x → fields (drop at r) ≡ x ∷ []) (sym here) (fields_end_at r at) h)
 
 -- what the loop leaves is what the contract says
-pub outcome_done : (fs : List (List ℕ)) (out : List ℕ) (a : Fields) (o : List ℕ) → outcome 0 0 fs out ≡ (a, o)
-    → (a ≡ fields_answer (numbers fs)) × (o ≡ written (take (length out) (map capped (leading fs))) out)
+pub outcome_done : (fs : List (List ℕ)) (out : List ℕ) (a : Option Numbers) (o : List ℕ) → outcome 0 0 fs out ≡ (a, o)
+    → (a ≡ option_map counted (numbers fs)) × (o ≡ written (take (length out) (map capped (leading fs))) out)
 outcome_done fs out a o e =
     (sym (ap (λ (x : Outcome). x.0) e) ∙ outcome_answer fs out, sym (ap (λ (x : Outcome). x.1) e) ∙ outcome_left fs out)

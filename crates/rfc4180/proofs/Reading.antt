@@ -1,5 +1,11 @@
 -- What a reader that goes from left to right has of a table: its first record and the rest, a record's first field and the rest, by place;
 -- and what a reader may do with the numbers and answers it is handed. Assumes nothing.
+use Rattle.std.specs.Prelude.{Option, None, Some, option_map}
+use Rattle.std.specs.List.{position_or_len, position}
+use Rattle.std.specs.Option.{unwrap_or}
+use Rattle.std.specs.Prelude.{nat_lt}
+use Rattle.std.proofs.lemmas.List.{drop_min}
+use Rattle.std.proofs.lemmas.List.Sums.{prefix_len-le-length}
 use Prim.Native.Nat.{ℕ, suc, ◌+◌, ◌-◌, ◌≤◌, ◌<◌, min, max}
 use native.Mathlib.Nat.{not-suc-le-zero}
 use native.Mathlib.Numerals.{add-one}
@@ -8,18 +14,17 @@ use mathlib.Core.Path.{◌≡◌, refl, ap, sym, ◌∙◌, subst}
 use mathlib.Core.Logic.{◌⊎◌, inl, inr}
 use mathlib.Core.Bool.{Bool, true, false, ◌&&◌, not, cond, and-false}
 use mathlib.Core.List.{List, [], ◌∷◌, ◌++◌}
-use mathlib.Core.Option.{Option, none, some, none-ne-some, some-injective}
 use lib.Dec.{T, eqb, leb, eqb→eq}
 use lib.ListN.{length, take, drop, get_or, drop_of_length-le, length-drop, length-append}
 use lib.Seq.{drop-cons, take_all, take-append_seam, drop-append-add, get_or-drop, drop-drop}
 use mir.Facts.{and_yes}
 use borrow.Author.Tests.{eq-eqb, ne_eqb, le-leb, lt-leb, leb-true, leb-false}
+use Rattle.laws.proofs.Options.{none-ne-some, some-injective}
 use Rattle.rfc4180.specs.Records.{push, pieces, records, first_record, widen, fields, field_at}
 use Rattle.rfc4180.specs.Number.{number, numbers, greatest, leading, capped}
-use Rattle.rfc4180.specs.Answers.{number_answer, fields_answer}
-use Rattle.rfc4180.specs.declared.Number.{Number}
-use Rattle.rfc4180.specs.declared.Fields.{Fields}
-use Rattle.rfc4180.proofs.Records.{Some, no_end, some_piece, pieces_line, pieces_last, records_line, records_last, records_none}
+use Rattle.rfc4180.specs.Answers.{counted}
+use Rattle.rfc4180.specs.declared.Numbers.{Numbers}
+use Rattle.rfc4180.proofs.Records.{Nonempty, no_end, some_piece, pieces_line, pieces_last, records_line, records_last, records_none}
 
 -- a part that runs to the end
 pub rest_is : (t : List ℕ) (a : ℕ) → take (length t - a) (drop a t) ≡ drop a t
@@ -80,11 +85,11 @@ module _ (s : List ℕ) (i : ℕ) where
       ∙ ap (λ (j : ℕ). cond (ends (get_or s i 0) (get_or s (i + 1) 0)) [] (get_or s i 0 ∷ first_record (drop j s))) (sym (add-one i))
 
   -- a CR LF here ends it
-  pub first_ends : i < length s → get_or s i 0 ≡ 13 → get_or s (i + 1) 0 ≡ 10 → length (first_record (drop i s)) ≡ 0
+  first_ends : i < length s → get_or s i 0 ≡ 13 → get_or s (i + 1) 0 ≡ 10 → length (first_record (drop i s)) ≡ 0
   first_ends h r l = ap (length {A = ℕ}) (first_here h) ∙ simp (eq-eqb _ _ r, eq-eqb _ _ l)
 
   -- any other byte belongs to it
-  pub first_goes_on : i < length s → (get_or s i 0 ≡ 13 → get_or s (i + 1) 0 ≡ 10 → ⊥) → length (first_record (drop i s)) ≡ length (first_record (drop (i + 1) s)) + 1
+  first_goes_on : i < length s → (get_or s i 0 ≡ 13 → get_or s (i + 1) 0 ≡ 10 → ⊥) → length (first_record (drop i s)) ≡ length (first_record (drop (i + 1) s)) + 1
   first_goes_on h n = ap (length {A = ℕ}) (first_here h) ∙ by (ends (get_or s i 0) (get_or s (i + 1) 0)) refl
     where
       by : (t : Bool) → ends (get_or s i 0) (get_or s (i + 1) 0) ≡ t → length (cond t [] (get_or s i 0 ∷ first_record (drop (i + 1) s))) ≡ length (first_record (drop (i + 1) s)) + 1
@@ -94,11 +99,11 @@ module _ (s : List ℕ) (i : ℕ) where
       by false e = omega arith
 
   -- the table's end ends it
-  pub first_over : length s ≤ i → length (first_record (drop i s)) ≡ 0
+  first_over : length s ≤ i → length (first_record (drop i s)) ≡ 0
   first_over h = ap (λ (x : List ℕ). length (first_record x)) (drop_of_length-le s h) ∙ ap (length {A = ℕ}) first_none
 
   -- there is no byte past the end, so no LF
-  pub no_lf_past : length s ≤ i → get_or s i 0 ≡ 10 → ⊥
+  no_lf_past : length s ≤ i → get_or s i 0 ≡ 10 → ⊥
   no_lf_past h e =
       let z : get_or s i 0 ≡ 0 = ap (λ (j : ℕ). get_or s j 0) (omega arith) ∙ sym (get_or-drop i s 0 0) ∙ ap (λ (x : List ℕ). get_or x 0 0) (drop_of_length-le s h) in
       omega (arith, e, z)
@@ -167,15 +172,51 @@ records_first (b ∷ u) h = by (first_split (b ∷ u))
         let past : drop (length r + 2) (b ∷ u) ≡ rest = ap (drop (length r + 2)) q ∙ drop-append-add r (13 ∷ 10 ∷ rest) 2 in
         rw f (ap records q ∙ records_line r rest n ∙ ap (λ (x : List ℕ). r ∷ records x) (sym past))
 
+-- the same, seen from the byte before place i
+module _ (s : List ℕ) (i : ℕ) (one : 1 ≤ i) where
+  here : get_or s (i - 1 + 1) 0 ≡ get_or s i 0
+  here = ap (λ (j : ℕ). get_or s j 0) (omega (arith, one))
+
+  -- a CR LF ends the record
+  pub first_ends_before : i < length s → get_or s (i - 1) 0 ≡ 13 → get_or s i 0 ≡ 10 → length (first_record (drop (i - 1) s)) ≡ 0
+  first_ends_before h r l = first_ends s (i - 1) (omega (arith, h)) r (here ∙ l)
+
+  -- any other byte belongs to it
+  pub first_goes_on_before : i < length s → (get_or s (i - 1) 0 ≡ 13 → get_or s i 0 ≡ 10 → ⊥)
+      → length (first_record (drop (i - 1) s)) ≡ length (first_record (drop (i + 1 - 1) s)) + 1
+  first_goes_on_before h n =
+      first_goes_on s (i - 1) (omega (arith, h)) (λ r l. n r (sym here ∙ l))
+      ∙ ap (λ (j : ℕ). length (first_record (drop j s)) + 1) (omega (arith, one))
+
+  -- and so does the last byte
+  pub first_all : length s ≤ i → (1 ≤ length s → i ≤ length s) → length (first_record s) ≡ i - 1 + length (first_record (drop (i - 1) s)) → length s ≡ length (first_record s)
+  first_all past most e = by (leb 1 (length s)) refl
+    where
+      by : (t : Bool) → leb 1 (length s) ≡ t → length s ≡ length (first_record s)
+      by true q =
+          let some : 1 ≤ length s = leb-true 1 (length s) q in
+          let last = first_goes_on s (i - 1) (omega (arith, some, most some, one)) (λ r l. no_lf_past s (i - 1 + 1) (omega (arith, past, one)) l) in
+          omega (arith, e, last, first_over s (i - 1 + 1) (omega (arith, past, one)), past, most some)
+      by false q = let none : length s < 1 = leb-false 1 (length s) q in omega (arith, none, first_record_fits s)
+
+-- where there is nothing, there is no record
+pub records_over : (t : List ℕ) → length t ≡ 0 → records t ≡ []
+records_over [] h = records_none
+records_over (b ∷ t) h = absurd (omega (arith, h))
+
+-- the first record, and those behind it: its end is passed over, as far as there is one
+pub records_behind : (t r : List ℕ) (k : ℕ) → 0 < length t → r ≡ first_record t → k ≡ min (length r + 2) (length t) → records t ≡ r ∷ records (take (length t - k) (drop k t))
+records_behind t r k h e m = rw (rest_is t k, m, drop_min (length r + 2) t, e) (records_first t h)
+
 -- ---- fields
 
 -- there is always a field
-pub some_field : (r : List ℕ) → Some (fields r)
+pub some_field : (r : List ℕ) → Nonempty (fields r)
 unfolding fields widen
 some_field [] = ([], [], refl)
 some_field (b ∷ r) = by (eqb b 44) (some_field r)
   where
-    by : (t : Bool) → Some (fields r) → Some (cond t ([] ∷ fields r) (widen b (fields r)))
+    by : (t : Bool) → Nonempty (fields r) → Nonempty (cond t ([] ∷ fields r) (widen b (fields r)))
     by true (f, fs, e) = ([], fields r, refl)
     by false (f, fs, e) = (b ∷ f, fs, ap (widen b) e)
 
@@ -184,7 +225,7 @@ field_step : (b : ℕ) (r : List ℕ) → field_at (b ∷ r) 0 ≡ cond (eqb b 4
 unfolding fields widen field_at
 field_step b r = by (eqb b 44) (some_field r)
   where
-    by : (t : Bool) → Some (fields r) → get_or (cond t ([] ∷ fields r) (widen b (fields r))) 0 [] ≡ cond t [] (b ∷ get_or (fields r) 0 [])
+    by : (t : Bool) → Nonempty (fields r) → get_or (cond t ([] ∷ fields r) (widen b (fields r))) 0 [] ≡ cond t [] (b ∷ get_or (fields r) 0 [])
     by true h = refl
     by false (f, fs, e) = rw e refl
 
@@ -215,6 +256,24 @@ field_front (b ∷ r) = by (eqb b 44) (field_step b r) (field_front r)
     by : (t : Bool) → field_at (b ∷ r) 0 ≡ cond t [] (b ∷ field_at r 0) → take (length (field_at r 0)) r ≡ field_at r 0 → take (length (field_at (b ∷ r) 0)) (b ∷ r) ≡ field_at (b ∷ r) 0
     by true e h = rw e refl
     by false e h = rw e (ap (λ (x : List ℕ). b ∷ x) h)
+
+-- it ends at the first comma, or with the record
+pub field_length_is : (r : List ℕ) → length (field_at r 0) ≡ position_or_len (λ b. eqb b 44) r
+field_length_is [] = ap (length {A = ℕ}) field_none
+field_length_is (b ∷ r) = ap (length {A = ℕ}) (field_step b r) ∙ by (eqb b 44) (field_length_is r)
+  where
+    by : (t : Bool) → length (field_at r 0) ≡ position_or_len (λ b. eqb b 44) r
+        → length (cond t [] (b ∷ field_at r 0)) ≡ cond (not t) (1 + position_or_len (λ b. eqb b 44) r) 0
+    by true e = refl
+    by false e = omega (arith, e)
+
+-- the first place that passes, or the length
+pub or_length : {X : Type 0} (p : X → Bool) (xs : List X) → unwrap_or (position p xs) (length xs) ≡ position_or_len p xs
+or_length p xs = by (nat_lt (position_or_len p xs) (length xs)) refl
+  where
+    by : (t : Bool) → nat_lt (position_or_len p xs) (length xs) ≡ t → unwrap_or (cond t (Some (position_or_len p xs)) None) (length xs) ≡ position_or_len p xs
+    by true e = refl
+    by false e = omega (arith, leb-false _ _ e, prefix_len-le-length (λ x. not (p x)) xs)
 
 fields_step : (b : ℕ) (r : List ℕ) → fields (b ∷ r) ≡ cond (eqb b 44) ([] ∷ fields r) (widen b (fields r))
 unfolding fields
@@ -331,17 +390,17 @@ greatest_within k [] = sym (le-leb 0 k (omega arith))
 greatest_within k (n ∷ ns) = ap (λ (t : Bool). leb n k && t) (greatest_within k ns) ∙ max_within n (greatest ns) k
 
 -- where all fields are numbers, those before the first that is none are all
-pub leading_all : (fs : List (List ℕ)) (ns : List ℕ) → numbers fs ≡ some ns → leading fs ≡ ns
+pub leading_all : (fs : List (List ℕ)) (ns : List ℕ) → numbers fs ≡ Some ns → leading fs ≡ ns
 unfolding numbers leading
 leading_all [] ns e = some-injective _ _ e
 leading_all (f ∷ fs) ns e = by (number f) (numbers fs) refl (leading_all fs) e
   where
-    by : (o : Option ℕ) (os : Option (List ℕ)) → numbers fs ≡ os → ((ms : List ℕ) → numbers fs ≡ some ms → leading fs ≡ ms)
-        → elim o [ none ↦ none | some n ↦ elim os [ none ↦ none | some ms ↦ some (n ∷ ms) ] ] ≡ some ns
-        → elim o [ none ↦ [] | some n ↦ n ∷ leading fs ] ≡ ns
-    by none os q more e = absurd (none-ne-some _ e)
-    by (some n) none q more e = absurd (none-ne-some _ e)
-    by (some n) (some ms) q more e = ap (λ (x : List ℕ). n ∷ x) (more ms q) ∙ some-injective _ _ e
+    by : (o : Option ℕ) (os : Option (List ℕ)) → numbers fs ≡ os → ((ms : List ℕ) → numbers fs ≡ Some ms → leading fs ≡ ms)
+        → elim o [ None ↦ None | Some n ↦ elim os [ None ↦ None | Some ms ↦ Some (n ∷ ms) ] ] ≡ Some ns
+        → elim o [ None ↦ [] | Some n ↦ n ∷ leading fs ] ≡ ns
+    by None os q more e = absurd (none-ne-some _ e)
+    by (Some n) None q more e = absurd (none-ne-some _ e)
+    by (Some n) (Some ms) q more e = ap (λ (x : List ℕ). n ∷ x) (more ms q) ∙ some-injective _ _ e
 
 -- a number that a place of four bytes can hold is held
 pub capped_small : (n : ℕ) → n ≤ 4_294_967_295 → capped n ≡ n
@@ -357,43 +416,18 @@ capped_leb n k h = by (leb n k) refl
     by true e = let l : min n 4_294_967_295 ≤ k = omega (arith, leb-true n k e) in le-leb _ _ l
     by false e = let l : k < min n 4_294_967_295 = omega (arith, leb-false n k e) in lt-leb _ _ l
 
--- ---- answers
+-- ---- what a record answers
 
--- the number that an answer says
-number_said : Number → Option ℕ
-number_said (Number.Value n) = some n
-number_said Number.Malformed = none
+-- a record that says so many numbers has them, and this is their greatest
+pub answered_numbers : (o : Option (List ℕ)) (n m : ℕ) → Some (record { count = n; greatest = m }) ≡ option_map counted o
+    → (ns : List ℕ) × (o ≡ Some ns) × (n ≡ length ns) × (m ≡ greatest ns)
+unfolding counted
+answered_numbers None n m e = absurd (none-ne-some _ (sym e))
+answered_numbers (Some ns) n m e =
+    let q = some-injective _ _ e in
+    (ns, refl, ap (λ (x : Numbers). x.count) q, ap (λ (x : Numbers). x.greatest) q)
 
-said_back : (o : Option ℕ) → o ≡ number_said (number_answer o)
-unfolding number_said number_answer
-said_back none = refl
-said_back (some n) = refl
-
--- a field with this answer is this number
-pub answered_value : (o : Option ℕ) (n : ℕ) → Number.Value n ≡ number_answer o → o ≡ some n
-unfolding number_said
-answered_value o n e = said_back o ∙ ap number_said (sym e)
-
--- and one with the other is none
-pub answered_malformed : (o : Option ℕ) → Number.Malformed ≡ number_answer o → o ≡ none
-unfolding number_said
-answered_malformed o e = said_back o ∙ ap number_said (sym e)
-
--- how many numbers an answer says, and the greatest
-fields_said : Fields → Option (ℕ × ℕ)
-fields_said (Fields.Numbers n m) = some (n, m)
-fields_said Fields.Malformed = none
-
--- a record with this answer has these many numbers, and this is their greatest
-pub answered_numbers : (o : Option (List ℕ)) (n m : ℕ) → Fields.Numbers n m ≡ fields_answer o → (ns : List ℕ) × (o ≡ some ns) × (n ≡ length ns) × (m ≡ greatest ns)
-unfolding fields_said fields_answer
-answered_numbers none n m e = absurd (none-ne-some _ (sym (ap fields_said e)))
-answered_numbers (some ns) n m e =
-    let q = some-injective _ _ (ap fields_said e) in
-    (ns, refl, ap (λ (p : ℕ × ℕ). p.0) q, ap (λ (p : ℕ × ℕ). p.1) q)
-
--- and one with the other has a field that is none
-pub answered_none : (o : Option (List ℕ)) → Fields.Malformed ≡ fields_answer o → o ≡ none
-unfolding fields_said fields_answer
-answered_none none e = refl
-answered_none (some ns) e = absurd (none-ne-some _ (ap fields_said e))
+-- one that says none has a field that is none
+pub answered_none : (o : Option (List ℕ)) → None ≡ option_map counted o → o ≡ None
+answered_none None e = refl
+answered_none (Some ns) e = absurd (none-ne-some _ e)

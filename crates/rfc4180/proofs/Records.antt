@@ -25,20 +25,20 @@ cond_not true x y t = absurd t
 cond_not false x y t = refl
 
 -- the pieces are one and others
-abbrev pub Some : List (List ℕ) → Type 0
-Some t = (p : List ℕ) × (ps : List (List ℕ)) × (t ≡ p ∷ ps)
+abbrev pub Nonempty : List (List ℕ) → Type 0
+Nonempty t = (p : List ℕ) × (ps : List (List ℕ)) × (t ≡ p ∷ ps)
 
-pushed : (b : ℕ) (p : List ℕ) (ps : List (List ℕ)) → Some (push b (p ∷ ps))
+pushed : (b : ℕ) (p : List ℕ) (ps : List (List ℕ)) → Nonempty (push b (p ∷ ps))
 unfolding push
 pushed b [] ps = (b ∷ [], ps, refl)
 pushed b (c ∷ p) ps = by (eqb b 13 && eqb c 10)
   where
-    by : (t : Bool) → Some (cond t ([] ∷ p ∷ ps) ((b ∷ c ∷ p) ∷ ps))
+    by : (t : Bool) → Nonempty (cond t ([] ∷ p ∷ ps) ((b ∷ c ∷ p) ∷ ps))
     by true = ([], p ∷ ps, refl)
     by false = (b ∷ c ∷ p, ps, refl)
 
 -- there is always a piece
-pub some_piece : (t : List ℕ) → Some (pieces t)
+pub some_piece : (t : List ℕ) → Nonempty (pieces t)
 unfolding pieces
 some_piece [] = ([], [], refl)
 some_piece (b ∷ bs) = let (p, ps, e) = some_piece bs in let (q, qs, f) = pushed b p ps in (q, qs, ap (push b) e ∙ f)

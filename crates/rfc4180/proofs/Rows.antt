@@ -1,9 +1,9 @@
 -- Records, fields and numbers of some texts. Assumes nothing.
+use Rattle.std.specs.Prelude.{Option, None, Some}
 use Prim.Native.Nat.{ℕ}
 use Prim.Native.String.{String}
 use mathlib.Core.Path.{◌≡◌, refl}
 use mathlib.Core.List.{List, [], ◌∷◌, map}
-use mathlib.Core.Option.{Option, none, some}
 use Rattle.rfc4180.specs.Text.{bytes}
 use Rattle.rfc4180.specs.Records.{records, first_record, fields, field_at}
 use Rattle.rfc4180.specs.Number.{number, greatest, leading, capped}
@@ -51,18 +51,18 @@ record Number : Type 0 where
 
 number_rows : List Number
 number_rows =
-    record { text = "0"; gives = some 0 }
-    ∷ record { text = "9"; gives = some 9 }
-    ∷ record { text = "10"; gives = some 10 }
-    ∷ record { text = "9876543210"; gives = some 9_876_543_210 }
-    ∷ record { text = ""; gives = none }
-    ∷ record { text = "00"; gives = none }
-    ∷ record { text = "01"; gives = none }
-    ∷ record { text = "11111111111"; gives = none }
-    ∷ record { text = "-1"; gives = none }
-    ∷ record { text = "1/"; gives = none }
-    ∷ record { text = "1:"; gives = none }
-    ∷ record { text = " 1"; gives = none }
+    record { text = "0"; gives = Some 0 }
+    ∷ record { text = "9"; gives = Some 9 }
+    ∷ record { text = "10"; gives = Some 10 }
+    ∷ record { text = "9876543210"; gives = Some 9_876_543_210 }
+    ∷ record { text = ""; gives = None }
+    ∷ record { text = "00"; gives = None }
+    ∷ record { text = "01"; gives = None }
+    ∷ record { text = "11111111111"; gives = None }
+    ∷ record { text = "-1"; gives = None }
+    ∷ record { text = "1/"; gives = None }
+    ∷ record { text = "1:"; gives = None }
+    ∷ record { text = " 1"; gives = None }
     ∷ []
 
 numbers_follow : map (λ (r : Number). number (bytes r.text)) number_rows ≡ map (λ (r : Number). r.gives) number_rows

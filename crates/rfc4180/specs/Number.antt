@@ -1,23 +1,22 @@
 -- The number that a field holds (document 01, "The three tables").
 -- Assumes nothing.
-use Rattle.std.specs.Prelude.{ℕ, ◌+◌, ◌*◌, ◌-◌, min, max, true, false, ◌&&◌, cond, List, [], ◌∷◌, leb, eqb, length}
-use Rattle.std.proofs.Math.Option.{Option, none, some}
+use Rattle.std.specs.Prelude.{ℕ, ◌+◌, ◌*◌, ◌-◌, min, max, true, false, ◌&&◌, cond, List, [], ◌∷◌, leb, eqb, length, Option, None, Some}
 
 -- the value of the decimal digits that follow n; none where a byte is no digit
 unfoldable pub decimal : ℕ → List ℕ → Option ℕ
-decimal n [] = some n
-decimal n (b ∷ bs) = elim (leb 48 b && leb b 57) [ true ↦ decimal (10 * n + (b - 48)) bs | false ↦ none ]
+decimal n [] = Some n
+decimal n (b ∷ bs) = elim (leb 48 b && leb b 57) [ true ↦ decimal (10 * n + (b - 48)) bs | false ↦ None ]
 
 -- "A number is "0" or up to ten decimal digits of which the first is not 0."
 unfoldable pub number : List ℕ → Option ℕ
-number [] = none
+number [] = None
 number (b ∷ []) = decimal 0 (b ∷ [])
-number (b ∷ c ∷ cs) = cond (eqb b 48) none (cond (leb (length (b ∷ c ∷ cs)) 10) (decimal 0 (b ∷ c ∷ cs)) none)
+number (b ∷ c ∷ cs) = cond (eqb b 48) None (cond (leb (length (b ∷ c ∷ cs)) 10) (decimal 0 (b ∷ c ∷ cs)) None)
 
 -- the numbers of fields that are all numbers
 unfoldable pub numbers : List (List ℕ) → Option (List ℕ)
-numbers [] = some []
-numbers (f ∷ fs) = elim (number f) [ none ↦ none | some n ↦ elim (numbers fs) [ none ↦ none | some ns ↦ some (n ∷ ns) ] ]
+numbers [] = Some []
+numbers (f ∷ fs) = elim (number f) [ None ↦ None | Some n ↦ elim (numbers fs) [ None ↦ None | Some ns ↦ Some (n ∷ ns) ] ]
 
 -- the greatest of some numbers
 unfoldable pub greatest : List ℕ → ℕ
@@ -27,7 +26,7 @@ greatest (n ∷ ns) = max n (greatest ns)
 -- the numbers of the fields before the first that is none
 unfoldable pub leading : List (List ℕ) → List ℕ
 leading [] = []
-leading (f ∷ fs) = elim (number f) [ none ↦ [] | some n ↦ n ∷ leading fs ]
+leading (f ∷ fs) = elim (number f) [ None ↦ [] | Some n ↦ n ∷ leading fs ]
 
 -- a number as a place of four bytes holds it: those over the greatest as the greatest, which no range of a table reaches
 unfoldable pub capped : ℕ → ℕ

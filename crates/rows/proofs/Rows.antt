@@ -1,8 +1,8 @@
 -- Every row follows from the definitions: computed from the bytes of its tables, with a timetable found quickly, which equals the defined one.
 -- Assumes nothing.
+use Rattle.std.specs.Prelude.{Option}
 use mathlib.Core.Path.{◌≡◌, refl, subst, fun_ext}
 use mathlib.Core.List.{◌++◌, map}
-use mathlib.Core.Option.{Option}
 use Rattle.floor.specs.Plan.{Plan}
 use Rattle.walks.proofs.Quick.{open_quick}
 use Rattle.schedule.specs.Book.{Book}

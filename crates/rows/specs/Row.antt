@@ -1,8 +1,6 @@
 -- A row: three tables, the reports made on the plan, and what document 01 says of it, against what the definitions say.
 -- Assumes nothing.
-use Rattle.std.specs.Prelude.{ℕ, suc, cond, List, [], ◌∷◌, map, nat_abs, length, get_or}
-use Rattle.std.proofs.Math.Option.{Option, none, some}
-use Rattle.floor.specs.Refusal.{refused, accepted}
+use Rattle.std.specs.Prelude.{ℕ, suc, cond, List, [], ◌∷◌, map, nat_abs, length, get_or, Option, None, Some, Err, Ok}
 use Rattle.floor.specs.Plan.{Plan}
 use Rattle.floor.specs.Tables.{Tables}
 use Rattle.network.specs.Events.{event_count}
@@ -12,8 +10,9 @@ use Rattle.schedule.specs.Book.{Report, Book, first_book, book_after}
 use Rattle.schedule.specs.Timetable.{Timetable, timetable}
 use Rattle.schedule.specs.Added.{numbered_bounds}
 use Rattle.schedule.specs.Chain.{Item, Leg, legs, cost, is_chain}
-use Rattle.hegtalim.specs.declared.Loaded.{Loaded}
-use Rattle.hegtalim.specs.Answers.{Answer, plain, loaded_answer, reported_answer}
+use Rattle.tables.specs.declared.ReadError.{ReadError as LoadError}
+use Rattle.hegtalim.specs.declared.answer.Answer.{Answer}
+use Rattle.hegtalim.specs.Answers.{plain, loaded_answer, reported_answer}
 use Rattle.hegtalim.specs.Outcomes.{book_answer}
 
 -- what may be asked of a plan: the load's refusal (0: accepted), its table and its record; the number of events and of bounds; the refusal of the last
@@ -48,23 +47,23 @@ after p g (r ∷ rs) =
 
 -- the refusal of a timetable
 unfoldable pub is_timed : Option Timetable → ℕ
-is_timed none = 13
-is_timed (some t) = 0
+is_timed None = 13
+is_timed (Some t) = 0
 
 -- its passes
 unfoldable pub passes_of : Option Timetable → ℕ
-passes_of none = 0
-passes_of (some t) = t.passes
+passes_of None = 0
+passes_of (Some t) = t.passes
 
 -- its time for event e
 unfoldable pub time_at : ℕ → Option Timetable → ℕ
-time_at e none = 0
-time_at e (some t) = get_or t.times e 0
+time_at e None = 0
+time_at e (Some t) = get_or t.times e 0
 
 -- what legs cost, without the sign
 unfoldable pub size : Option (List Leg) → ℕ
-size none = 0
-size (some ls) = nat_abs (cost ls)
+size None = 0
+size (Some ls) = nat_abs (cost ls)
 
 -- what the definitions answer of an accepted plan, with its progress and its timetable
 unfoldable pub reply : Plan → Progress → Option Timetable → Question → ℕ
@@ -98,8 +97,8 @@ refused_reply a (cost_of is) = 0
 unfoldable pub replies : (Plan → Book → Option Timetable) → Row → List ℕ
 replies table_of r =
     elim (judge r.tables) [
-      | refused why ↦ map (λ (f : Fact). refused_reply (loaded_answer (Loaded.Refused why)) f.asks) r.facts
-      | accepted p ↦
+      | Err why ↦ map (λ (f : Fact). refused_reply (loaded_answer (Err (LoadError.Refused why))) f.asks) r.facts
+      | Ok p ↦
           let g : Progress = after p (record { book = first_book p; answer = plain 0 }) r.reports in
           let t : Option Timetable = table_of p g.book in
           map (λ (f : Fact). reply p g t f.asks) r.facts

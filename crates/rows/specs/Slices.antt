@@ -1,7 +1,6 @@
 -- One cart, path A B, in plan slices of their real size: what is held, and what a timetable answers.
 -- Assumes nothing.
-use Rattle.std.specs.Prelude.{ℕ, List, [], ◌∷◌, replicate}
-use Rattle.std.proofs.Math.Option.{none}
+use Rattle.std.specs.Prelude.{ℕ, List, [], ◌∷◌, replicate, None}
 use Rattle.floor.specs.Plan.{Plan}
 use Rattle.floor.specs.Examples.{a_to_b}
 use Rattle.schedule.specs.Book.{Report, ◌at◌, Book}
@@ -18,7 +17,7 @@ unfoldable pub plan : Plan
 plan =
     record {
       roads = record { from = 0; to = 1; length = 1_000_000; margin = 250_000 } ∷ [];
-      carts = record { fastest = 250_000; slowest = none } ∷ [];
+      carts = record { fastest = 250_000; slowest = None } ∷ [];
       paths = (0 ∷ 1 ∷ []) ∷ [];
     }
 

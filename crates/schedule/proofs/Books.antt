@@ -1,13 +1,14 @@
 -- What holds of every book that a log of accepted reports can give: each cart has passed its first entry at 0, no more points than it has, and none
 -- after the clock. Assumes nothing.
+use Rattle.std.specs.Prelude.{Some}
 use Prim.Native.Nat.{ℕ, zero, suc, ◌-◌, ◌≤◌, ◌<◌}
 use native.Mathlib.Omega.{arith}
 use mathlib.Core.Path.{◌≡◌, refl, ap, subst}
 use mathlib.Core.Logic.{⊎_elim}
 use mathlib.Core.List.Memᴰ
 use mathlib.Core.List.{List, [], ◌∷◌, ◌++◌, map, Memᴰ}
-use mathlib.Core.Option.{some, some-injective}
 use lib.ListN.{length, get_or, set, length-append}
+use Rattle.laws.proofs.Options.{some-injective}
 use Rattle.floor.specs.Plan.{Plan}
 use Rattle.network.specs.Events.{Route, routes_of, route_points}
 use Rattle.schedule.proofs.Log.{Acceptable, acceptable_says, replay_first, counts}
@@ -80,7 +81,7 @@ next_kept p b r a k = record { carts = pass_kept (r.cart - 1) a.clock k.carts a.
 
 -- ---- a whole log
 
-replay_kept : (p : Plan) (b : Book) (log : List Report) (c : Book) → KeptBook p b → replay p b log ≡ some c → KeptBook p c
+replay_kept : (p : Plan) (b : Book) (log : List Report) (c : Book) → KeptBook p b → replay p b log ≡ Some c → KeptBook p c
 unfolding replay
 replay_kept p b [] c k e = subst (KeptBook p) (some-injective _ _ e) k
 replay_kept p b (r ∷ rs) c k e =
@@ -88,7 +89,7 @@ replay_kept p b (r ∷ rs) c k e =
     replay_kept p (pass_next b r) rs c (next_kept p b r (acceptable_says p b r q) k) f
 
 -- every book that a log gives
-pub book_kept : (p : Plan) (log : List Report) (b : Book) → HasPoints (routes_of p) → replay p (first_book p) log ≡ some b → KeptBook p b
+pub book_kept : (p : Plan) (log : List Report) (b : Book) → HasPoints (routes_of p) → replay p (first_book p) log ≡ Some b → KeptBook p b
 unfolding first_book
 book_kept p log b h e = replay_kept p (first_book p) log b (record { carts = first_kept (routes_of p) h; in_range = omega arith }) e
 

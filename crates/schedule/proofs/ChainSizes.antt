@@ -1,5 +1,6 @@
 -- A chain fits its slices: it has no more items than there are events, since it meets none twice, and its numbers need no more than two bytes.
 -- Assumes nothing.
+use Rattle.std.specs.Prelude.{Option, None, Some}
 use Prim.Native.Nat.{ℕ, zero, suc, ◌+◌, ◌^◌, ◌≤◌, ◌<◌}
 use native.Mathlib.Decide.{dec_lt}
 use native.Mathlib.Omega.{arith}
@@ -8,12 +9,12 @@ use mathlib.Core.Logic.{inl, inr, ⊎_elim, ◌≢◌, by_cases}
 use mathlib.Core.Bool.{◌&&◌, not}
 use mathlib.Core.List.Memᴰ
 use mathlib.Core.List.{List, [], ◌∷◌, map, Memᴰ}
-use mathlib.Core.Option.{Option, none, some, none-ne-some, some-injective}
 use lib.Dec.{T, T_not, eqb, eqb_refl}
 use lib.ListN.{length, get_or}
 use lib.Signed.{lt_z}
 use lib.IntN.{pos}
 use mir.Facts.{and_yes}
+use Rattle.laws.proofs.Options.{none-ne-some, some-injective}
 use Rattle.laws.proofs.Tests.{yes_or}
 use Rattle.floor.specs.Plan.{Plan}
 use Rattle.network.specs.Events.{event_count}
@@ -60,20 +61,20 @@ legs_few ls n t h = by_cases (dec_lt n (length ls)) (λ k. absurd (clash k (pige
     clash : n < length ls → Twice (begun ls) n → ⊥
     clash k w = begins_apart ls t w.low w.high w.below (omega (arith, w.within)) w.equal
 
-leg_begins : (c : Bound) (n : ℕ) → c.from < n → c.to < n → (d : Direction) (l : Leg) → leg c d ≡ some l → l.begins < n
+leg_begins : (c : Bound) (n : ℕ) → c.from < n → c.to < n → (d : Direction) (l : Leg) → leg c d ≡ Some l → l.begins < n
 unfolding leg onward_leg
 leg_begins c n f t onward l e = by c.hi e
   where
-    by : (o : Option ℕ) → onward_leg c o ≡ some l → l.begins < n
-    by none e = absurd (none-ne-some _ e)
-    by (some h) e = subst (λ (x : Leg). x.begins < n) (some-injective _ _ e) f
+    by : (o : Option ℕ) → onward_leg c o ≡ Some l → l.begins < n
+    by None e = absurd (none-ne-some _ e)
+    by (Some h) e = subst (λ (x : Leg). x.begins < n) (some-injective _ _ e) f
 leg_begins c n f t back l e = subst (λ (x : Leg). x.begins < n) (some-injective _ _ e) t
 
-closed_few : (o : Option (List Leg)) (ls : List Leg) → o ≡ some ls → T (closed_below_0 o) → T (no_event_twice ls)
+closed_few : (o : Option (List Leg)) (ls : List Leg) → o ≡ Some ls → T (closed_below_0 o) → T (no_event_twice ls)
 unfolding closed_below_0
-closed_few none ls e t = absurd t
-closed_few (some []) ls e t = absurd t
-closed_few (some (l ∷ more)) ls e t =
+closed_few None ls e t = absurd t
+closed_few (Some []) ls e t = absurd t
+closed_few (Some (l ∷ more)) ls e t =
     let (a, c) = and_yes (linked l.ends l.begins more && no_event_twice (l ∷ more)) (lt_z (cost (l ∷ more)) (pos 0)) t in
     subst (λ (x : List Leg). T (no_event_twice x)) (some-injective _ _ e) (and_yes (linked l.ends l.begins more) (no_event_twice (l ∷ more)) a).1
 

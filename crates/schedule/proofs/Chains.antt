@@ -1,16 +1,17 @@
 -- A positive cycle of arcs, read the other way, is a chain; and a chain excludes times that fit. Assumes nothing.
+use Rattle.std.specs.Prelude.{Option, None, Some}
 use Prim.Native.Nat.{ℕ, suc, ◌≤◌}
 use mathlib.Core.Path.{◌≡◌, refl, ap, sym, ◌∙◌, subst}
 use mathlib.Core.Logic.{⊎_elim}
 use mathlib.Core.Bool.{Bool, true, false, ◌&&◌, ◌||◌, not}
 use mathlib.Core.List.Memᴰ
 use mathlib.Core.List.{List, [], ◌∷◌, map, Memᴰ}
-use mathlib.Core.Option.{Option, none, some, none-ne-some, some-injective}
 use lib.Dec.{T, not_T, eqb, eqb→eq, eqb_refl}
 use lib.IntN.{ℤ, pos, neg_ℤ, neg_ℤ-neg_ℤ, ◌+ℤ◌}
 use lib.Signed.{lt_z, lt_z_yes, ◌≤ℤ◌, ◌<ℤ◌}
 use lib.ListN.{length}
 use mir.Facts.{and_yes, yes_and}
+use Rattle.laws.proofs.Options.{none-ne-some, some-injective}
 use Rattle.laws.proofs.Signed.{signed, sum, difference, neg_up, neg_dn}
 use Rattle.laws.proofs.Members.{of_flat}
 use Rattle.floor.specs.Plan.{Plan}
@@ -34,24 +35,24 @@ abbrev pub mirror : Arc → Leg
 mirror a = record { begins = a.to; ends = a.from; costs = neg_ℤ a.adds }
 
 -- the way of a bound that is an arc has a direction whose leg is the arc's mirror
-way_leg : (c : Bound) (a : Arc) → Memᴰ a (ways c) → (d : Direction) × (leg c d ≡ some (mirror a))
+way_leg : (c : Bound) (a : Arc) → Memᴰ a (ways c) → (d : Direction) × (leg c d ≡ Some (mirror a))
 unfolding ways forward backward leg onward_leg
-way_leg c a m = ⊎_elim (λ (e : a ≡ forward c). (back, ap (λ (x : Arc). some (mirror x)) (sym e))) (λ h. by c.hi refl h) (Memᴰ.cases_cons m)
+way_leg c a m = ⊎_elim (λ (e : a ≡ forward c). (back, ap (λ (x : Arc). Some (mirror x)) (sym e))) (λ h. by c.hi refl h) (Memᴰ.cases_cons m)
   where
-    by : (hi : Option ℕ) → c.hi ≡ hi → Memᴰ a (backward c hi) → (d : Direction) × (leg c d ≡ some (mirror a))
-    by none q h = absurd (Memᴰ.not-nil h)
-    by (some x) q h = (
+    by : (hi : Option ℕ) → c.hi ≡ hi → Memᴰ a (backward c hi) → (d : Direction) × (leg c d ≡ Some (mirror a))
+    by None q h = absurd (Memᴰ.not-nil h)
+    by (Some x) q h = (
       onward,
       ap (onward_leg c) q
-          ∙ ap (λ (z : ℤ). some (record { begins = c.from; ends = c.to; costs = z })) (sym (neg_ℤ-neg_ℤ (pos x)))
-          ∙ ap (λ (y : Arc). some (mirror y)) (sym (Memᴰ.eq_of_singleton h)),
+          ∙ ap (λ (z : ℤ). Some (record { begins = c.from; ends = c.to; costs = z })) (sym (neg_ℤ-neg_ℤ (pos x)))
+          ∙ ap (λ (y : Arc). Some (mirror y)) (sym (Memᴰ.eq_of_singleton h)),
     )
 
 -- ---- from a cycle to a chain
 
 module _ (p : Plan) (b : Book) (kept : KeptBook p b) (few : length (bounds p) ≤ 8192) where
   -- an arc has an item whose leg is its mirror
-  arc_item : (a : Arc) → Memᴰ a (arcs p b) → (i : Item) × (leg_of (numbered_bounds p b) i ≡ some (mirror a))
+  arc_item : (a : Arc) → Memᴰ a (arcs p b) → (i : Item) × (leg_of (numbered_bounds p b) i ≡ Some (mirror a))
   unfolding arcs
   arc_item a m =
       let (c, h, w) = of_flat ways (all_bounds p b) a m in
@@ -61,7 +62,7 @@ module _ (p : Plan) (b : Book) (kept : KeptBook p b) (few : length (bounds p) �
 
   -- so have several, each its own
   arc_items : (as' : List Arc) → ((a : Arc) → Memᴰ a as' → Memᴰ a (arcs p b))
-      → (is : List Item) × (legs (numbered_bounds p b) is ≡ some (map mirror as')) × (length is ≡ length as')
+      → (is : List Item) × (legs (numbered_bounds p b) is ≡ Some (map mirror as')) × (length is ≡ length as')
   unfolding legs
   arc_items [] sub = ([], refl, refl)
   arc_items (a ∷ as') sub =
@@ -102,7 +103,7 @@ mirror_cost (a ∷ as') =
     omega (signed, sum (neg_ℤ a.adds) (cost (map mirror as')), sum a.adds (total as'), neg_up a.adds, neg_dn a.adds, neg_up (total as'), neg_dn (total as'), neg_up (a.adds +ℤ total as'), neg_dn (a.adds +ℤ total as'))
 
 -- a cycle's arcs, mirrored, are closed and cost less than 0
-pub mirror_closed : (arcs' : List Arc) (n : ℕ) (c : PositiveCycle arcs' n) → T (closed_below_0 (some (map mirror (c.first ∷ c.rest))))
+pub mirror_closed : (arcs' : List Arc) (n : ℕ) (c : PositiveCycle arcs' n) → T (closed_below_0 (Some (map mirror (c.first ∷ c.rest))))
 unfolding closed_below_0 total
 mirror_closed arcs' n c =
     let (e, h) = c.closed in
@@ -139,13 +140,13 @@ cycle_chain p b kept few n c =
 abbrev LegHolds : Times → Leg → Type 0
 LegHolds t l = t l.ends ≤ℤ (t l.begins +ℤ l.costs)
 
-leg_holds : (t : Times) (c : Bound) → Meets t c → (d : Direction) (l : Leg) → leg c d ≡ some l → LegHolds t l
+leg_holds : (t : Times) (c : Bound) → Meets t c → (d : Direction) (l : Leg) → leg c d ≡ Some l → LegHolds t l
 unfolding leg onward_leg
 leg_holds t c m onward l e = by c.hi refl e
   where
-    by : (hi : Option ℕ) → c.hi ≡ hi → onward_leg c hi ≡ some l → LegHolds t l
-    by none q e = absurd (none-ne-some _ e)
-    by (some h) q e =
+    by : (hi : Option ℕ) → c.hi ≡ hi → onward_leg c hi ≡ Some l → LegHolds t l
+    by None q e = absurd (none-ne-some _ e)
+    by (Some h) q e =
         let u = m.upper h q in
         subst (LegHolds t) (some-injective _ _ e) (omega (signed, u, sum (t c.from) (pos h), difference (t c.to) (t c.from)))
 leg_holds t c m back l e =
@@ -164,11 +165,11 @@ linked_holds t u e (l ∷ ls) h k =
     let rest : t e ≤ℤ (t l.ends +ℤ cost ls) = linked_holds t l.ends e ls (λ x m. h x (Memᴰ.tail m)) more in
     omega (signed, r, one, rest, sum (t l.begins) l.costs, sum (t l.ends) (cost ls), sum l.costs (cost ls), sum (t u) (l.costs +ℤ cost ls))
 
-closed_excludes : (t : Times) (o : Option (List Leg)) → ((ls : List Leg) → o ≡ some ls → (l : Leg) → Memᴰ l ls → LegHolds t l) → T (closed_below_0 o) → ⊥
+closed_excludes : (t : Times) (o : Option (List Leg)) → ((ls : List Leg) → o ≡ Some ls → (l : Leg) → Memᴰ l ls → LegHolds t l) → T (closed_below_0 o) → ⊥
 unfolding closed_below_0 linked cost
-closed_excludes t none h k = k
-closed_excludes t (some []) h k = k
-closed_excludes t (some (l ∷ ls)) h k =
+closed_excludes t None h k = k
+closed_excludes t (Some []) h k = k
+closed_excludes t (Some (l ∷ ls)) h k =
     let (a, c) = and_yes (linked l.ends l.begins ls && no_event_twice (l ∷ ls)) (lt_z (cost (l ∷ ls)) (pos 0)) k in
     let (f, g) = and_yes (linked l.ends l.begins ls) (no_event_twice (l ∷ ls)) a in
     let less : cost (l ∷ ls) <ℤ pos 0 = lt_z_yes c in

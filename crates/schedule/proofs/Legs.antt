@@ -1,13 +1,14 @@
 -- The legs of a list of items: each is that of a bound with the item's number. Assumes nothing.
+use Rattle.std.specs.Prelude.{Option, None, Some}
 use Prim.Native.Nat.{ℕ, suc, ◌+◌}
 use mathlib.Core.Path.{◌≡◌, refl, ap, ap₂, sym, ◌∙◌, subst}
 use mathlib.Core.Logic.{⊎_elim}
 use mathlib.Core.Bool.{Bool, true, false, cond}
 use mathlib.Core.List.Memᴰ
 use mathlib.Core.List.{List, [], ◌∷◌, Memᴰ}
-use mathlib.Core.Option.{Option, none, some, none-ne-some, some-injective}
 use lib.Dec.{T, eqb, eqb→eq}
 use lib.ListN.{length}
+use Rattle.laws.proofs.Options.{none-ne-some, some-injective}
 use Rattle.floor.specs.Plan.{Plan}
 use Rattle.network.specs.Bounds.{Bound, bounds}
 use Rattle.schedule.specs.Book.{Book}
@@ -17,41 +18,41 @@ use Rattle.schedule.specs.Chain.{Item, Leg, leg, leg_of, legs, closed_below_0}
 -- ---- a list of items
 
 -- one item more
-pub legs_cons : (bs : List Numbered) (i : Item) (is : List Item) (l : Leg) (ls : List Leg) → leg_of bs i ≡ some l → legs bs is ≡ some ls
-    → legs bs (i ∷ is) ≡ some (l ∷ ls)
+pub legs_cons : (bs : List Numbered) (i : Item) (is : List Item) (l : Leg) (ls : List Leg) → leg_of bs i ≡ Some l → legs bs is ≡ Some ls
+    → legs bs (i ∷ is) ≡ Some (l ∷ ls)
 unfolding legs
 legs_cons bs i is l ls e f = by (leg_of bs i) (legs bs is) e f
   where
-    by : (o : Option Leg) (q : Option (List Leg)) → o ≡ some l → q ≡ some ls
-        → ◌≡◌ {A = Option (List Leg)} (elim o [ none ↦ none | some x ↦ elim q [ none ↦ none | some xs ↦ some (x ∷ xs) ] ]) (some (l ∷ ls))
-    by none q e f = absurd (none-ne-some _ e)
-    by (some x) none e f = absurd (none-ne-some _ f)
-    by (some x) (some xs) e f = ap₂ (λ (y : Leg) (ys : List Leg). some (y ∷ ys)) (some-injective _ _ e) (some-injective _ _ f)
+    by : (o : Option Leg) (q : Option (List Leg)) → o ≡ Some l → q ≡ Some ls
+        → ◌≡◌ {A = Option (List Leg)} (elim o [ None ↦ None | Some x ↦ elim q [ None ↦ None | Some xs ↦ Some (x ∷ xs) ] ]) (Some (l ∷ ls))
+    by None q e f = absurd (none-ne-some _ e)
+    by (Some x) None e f = absurd (none-ne-some _ f)
+    by (Some x) (Some xs) e f = ap₂ (λ (y : Leg) (ys : List Leg). Some (y ∷ ys)) (some-injective _ _ e) (some-injective _ _ f)
 
 -- and one less: what a list of items says, taken apart
-legs_parts : (bs : List Numbered) (i : Item) (is : List Item) (ls : List Leg) → legs bs (i ∷ is) ≡ some ls
-    → (l : Leg) × (more : List Leg) × (leg_of bs i ≡ some l) × (legs bs is ≡ some more) × (ls ≡ l ∷ more)
+legs_parts : (bs : List Numbered) (i : Item) (is : List Item) (ls : List Leg) → legs bs (i ∷ is) ≡ Some ls
+    → (l : Leg) × (more : List Leg) × (leg_of bs i ≡ Some l) × (legs bs is ≡ Some more) × (ls ≡ l ∷ more)
 unfolding legs
 legs_parts bs i is ls e = by (leg_of bs i) (legs bs is) refl refl e
   where
     by : (o : Option Leg) (q : Option (List Leg)) → leg_of bs i ≡ o → legs bs is ≡ q
-        → ◌≡◌ {A = Option (List Leg)} (elim o [ none ↦ none | some x ↦ elim q [ none ↦ none | some xs ↦ some (x ∷ xs) ] ]) (some ls)
-        → (l : Leg) × (more : List Leg) × (leg_of bs i ≡ some l) × (legs bs is ≡ some more) × (ls ≡ l ∷ more)
-    by none q a c e = absurd (none-ne-some _ e)
-    by (some x) none a c e = absurd (none-ne-some _ e)
-    by (some x) (some xs) a c e = (x, xs, a, c, sym (some-injective _ _ e))
+        → ◌≡◌ {A = Option (List Leg)} (elim o [ None ↦ None | Some x ↦ elim q [ None ↦ None | Some xs ↦ Some (x ∷ xs) ] ]) (Some ls)
+        → (l : Leg) × (more : List Leg) × (leg_of bs i ≡ Some l) × (legs bs is ≡ Some more) × (ls ≡ l ∷ more)
+    by None q a c e = absurd (none-ne-some _ e)
+    by (Some x) None a c e = absurd (none-ne-some _ e)
+    by (Some x) (Some xs) a c e = (x, xs, a, c, sym (some-injective _ _ e))
 
 -- there is a leg for each item
-pub legs_long : (bs : List Numbered) (is : List Item) (ls : List Leg) → legs bs is ≡ some ls → length ls ≡ length is
+pub legs_long : (bs : List Numbered) (is : List Item) (ls : List Leg) → legs bs is ≡ Some ls → length ls ≡ length is
 unfolding legs
 legs_long bs [] ls e = ap length (sym (some-injective _ _ e))
 legs_long bs (i ∷ is) ls e = let (l, more, f, g, h) = legs_parts bs i is ls e in ap length h ∙ ap suc (legs_long bs is more g)
 
 -- a chain's items have legs
-pub closed_legs : (o : Option (List Leg)) → T (closed_below_0 o) → (ls : List Leg) × (o ≡ some ls)
+pub closed_legs : (o : Option (List Leg)) → T (closed_below_0 o) → (ls : List Leg) × (o ≡ Some ls)
 unfolding closed_below_0
-closed_legs none t = absurd t
-closed_legs (some ls) t = (ls, refl)
+closed_legs None t = absurd t
+closed_legs (Some ls) t = (ls, refl)
 
 -- ---- an item's bound
 
@@ -60,15 +61,15 @@ pub record ItemBound (bs : List Numbered) (i : Item) (l : Leg) : Type 0 where
   pub numbered : Numbered
   pub there : Memᴰ numbered bs
   pub same_number : numbered.number ≡ i.number
-  pub its_leg : leg numbered.bound i.direction ≡ some l
+  pub its_leg : leg numbered.bound i.direction ≡ Some l
 
-item_bound : (bs : List Numbered) (i : Item) (l : Leg) → leg_of bs i ≡ some l → ItemBound bs i l
+item_bound : (bs : List Numbered) (i : Item) (l : Leg) → leg_of bs i ≡ Some l → ItemBound bs i l
 unfolding leg_of
 item_bound [] i l e = absurd (none-ne-some _ e)
 item_bound (x ∷ bs) i l e = by (eqb x.number i.number) refl e (item_bound bs i l)
   where
-    by : (t : Bool) → eqb x.number i.number ≡ t → cond t (leg x.bound i.direction) (leg_of bs i) ≡ some l
-        → (leg_of bs i ≡ some l → ItemBound bs i l) → ItemBound (x ∷ bs) i l
+    by : (t : Bool) → eqb x.number i.number ≡ t → cond t (leg x.bound i.direction) (leg_of bs i) ≡ Some l
+        → (leg_of bs i ≡ Some l → ItemBound bs i l) → ItemBound (x ∷ bs) i l
     by true q e more =
         record { numbered = x; there = Memᴰ.head refl; same_number = eqb→eq x.number i.number (subst T (sym q) tt); its_leg = e }
     by false q e more =
@@ -76,7 +77,7 @@ item_bound (x ∷ bs) i l e = by (eqb x.number i.number) refl e (item_bound bs i
         record { numbered = b.numbered; there = Memᴰ.tail b.there; same_number = b.same_number; its_leg = b.its_leg }
 
 -- each item of a list with legs has one
-pub items_bounds : (bs : List Numbered) (is : List Item) (ls : List Leg) → legs bs is ≡ some ls → (i : Item) → Memᴰ i is
+pub items_bounds : (bs : List Numbered) (is : List Item) (ls : List Leg) → legs bs is ≡ Some ls → (i : Item) → Memᴰ i is
     → (l : Leg) × ItemBound bs i l
 items_bounds bs [] ls e i m = absurd (Memᴰ.not-nil m)
 items_bounds bs (x ∷ is) ls e i m =
@@ -85,7 +86,7 @@ items_bounds bs (x ∷ is) ls e i m =
     (Memᴰ.cases_cons m)
 
 -- and each leg is that of an item
-pub legs_bounds : (bs : List Numbered) (is : List Item) (ls : List Leg) → legs bs is ≡ some ls → (l : Leg) → Memᴰ l ls
+pub legs_bounds : (bs : List Numbered) (is : List Item) (ls : List Leg) → legs bs is ≡ Some ls → (l : Leg) → Memᴰ l ls
     → (i : Item) × ItemBound bs i l
 unfolding legs
 legs_bounds bs [] ls e l m = absurd (Memᴰ.not-nil (subst (Memᴰ l) (sym (some-injective _ _ e)) m))

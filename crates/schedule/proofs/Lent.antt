@@ -1,9 +1,9 @@
 -- Slices that meet their needs, and times read back from them. Assumes nothing.
+use Rattle.std.specs.Prelude.{Some}
 use Prim.Native.Nat.{ℕ, ◌^◌, ◌≤◌, ◌<◌}
 use native.Mathlib.Omega.{arith}
 use mathlib.Core.Path.{◌≡◌, sym, subst}
 use mathlib.Core.Bool.{◌&&◌}
-use mathlib.Core.Option.{some}
 use lib.Dec.{T, leb, leb→le, le→leb, lit≤}
 use lib.ListN.{length, drop, get_or}
 use mir.Facts.{and_yes, yes_and}
@@ -44,7 +44,7 @@ room_passes l r =
     (le→leb chain_directions_need (length l.chain_directions) r.directions_long)
 
 -- the times written are read back
-pub times_back : (p : Plan) (b : Book) → Logged p b → (t : Timetable) → timetable p b ≡ some t → (l : Lent) (v : ℕ) → v < event_count p
+pub times_back : (p : Plan) (b : Book) → Logged p b → (t : Timetable) → timetable p b ≡ Some t → (l : Lent) (v : ℕ) → v < event_count p
     → word_at 8 (times_written t l).times v ≡ get_or t.times v 0
 unfolding times_written written
 times_back p b k t e l v h =

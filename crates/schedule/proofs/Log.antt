@@ -1,4 +1,5 @@
 -- A log that is replayed: its carts and times, how long it can be, and one report more at its end. Assumes nothing.
+use Rattle.std.specs.Prelude.{None, Some}
 use Prim.Native.Nat.{ℕ, zero, suc, ◌+◌, ◌-◌, ◌≤◌, ◌<◌}
 use native.Mathlib.Nat.{not-suc-le-zero}
 use native.Mathlib.Omega.{arith}
@@ -7,10 +8,10 @@ use mathlib.Core.Logic.{⊎_elim}
 use mathlib.Core.Bool.{Bool, true, false, ◌&&◌}
 use mathlib.Core.List.Memᴰ
 use mathlib.Core.List.{List, [], ◌∷◌, ◌++◌, map, flat_map, Memᴰ}
-use mathlib.Core.Option.{none, some, none-ne-some, some-injective}
 use lib.Dec.{T, leb, ltb, leb→le, ltb→lt}
 use lib.ListN.{length, get_or, set, length-append, length-map, length-set}
 use mir.Facts.{and_yes}
+use Rattle.laws.proofs.Options.{none-ne-some, some-injective}
 use Rattle.floor.specs.Plan.{Plan}
 use Rattle.network.specs.Events.{Route, routes_of, route_points, event_count}
 use Rattle.network.proofs.Routes.{event_count_is}
@@ -49,37 +50,37 @@ acceptable_says p b r e =
 -- ---- replay
 
 -- a log that is replayed begins with an accepted report, and the rest is replayed
-pub replay_first : (p : Plan) (b c : Book) (r : Report) (rs : List Report) → replay p b (r ∷ rs) ≡ some c
-    → (acceptable p b r ≡ true) × (replay p (pass_next b r) rs ≡ some c)
+pub replay_first : (p : Plan) (b c : Book) (r : Report) (rs : List Report) → replay p b (r ∷ rs) ≡ Some c
+    → (acceptable p b r ≡ true) × (replay p (pass_next b r) rs ≡ Some c)
 unfolding replay
 replay_first p b c r rs e = by (acceptable p b r) refl e
   where
-    by : (t : Bool) → acceptable p b r ≡ t → elim t [ true ↦ replay p (pass_next b r) rs | false ↦ none ] ≡ some c
-        → (acceptable p b r ≡ true) × (replay p (pass_next b r) rs ≡ some c)
+    by : (t : Bool) → acceptable p b r ≡ t → elim t [ true ↦ replay p (pass_next b r) rs | false ↦ None ] ≡ Some c
+        → (acceptable p b r ≡ true) × (replay p (pass_next b r) rs ≡ Some c)
     by true q e = (q, e)
     by false q e = absurd (none-ne-some _ e)
 
 -- and back
 pub replay_on : (p : Plan) (b : Book) (r : Report) (rs : List Report) → acceptable p b r ≡ true → replay p b (r ∷ rs) ≡ replay p (pass_next b r) rs
 unfolding replay
-replay_on p b r rs q = ap (λ (t : Bool). elim t [ true ↦ replay p (pass_next b r) rs | false ↦ none ]) q
+replay_on p b r rs q = ap (λ (t : Bool). elim t [ true ↦ replay p (pass_next b r) rs | false ↦ None ]) q
 
 -- one log after another
-pub replay_append : (p : Plan) (b c : Book) (log more : List Report) → replay p b log ≡ some c → replay p b (log ++ more) ≡ replay p c more
+pub replay_append : (p : Plan) (b c : Book) (log more : List Report) → replay p b log ≡ Some c → replay p b (log ++ more) ≡ replay p c more
 unfolding replay
 replay_append p b c [] more e = ap (λ (x : Book). replay p x more) (some-injective _ _ e)
 replay_append p b c (r ∷ rs) more e =
     let (q, rest) = replay_first p b c r rs e in replay_on p b r (rs ++ more) q ∙ replay_append p (pass_next b r) c rs more rest
 
 -- an accepted report at the end
-pub replay_snoc : (p : Plan) (b0 b : Book) (log : List Report) (r : Report) → replay p b0 log ≡ some b → acceptable p b r ≡ true
-    → replay p b0 (log ++ (r ∷ [])) ≡ some (pass_next b r)
+pub replay_snoc : (p : Plan) (b0 b : Book) (log : List Report) (r : Report) → replay p b0 log ≡ Some b → acceptable p b r ≡ true
+    → replay p b0 (log ++ (r ∷ [])) ≡ Some (pass_next b r)
 unfolding replay
 replay_snoc p b0 b log r e q = replay_append p b0 b log (r ∷ []) e ∙ replay_on p b r [] q
 
 -- every beginning of a log that is replayed is replayed, and then the rest
-pub replay_prefix : (p : Plan) (b0 b : Book) (log more : List Report) → replay p b0 (log ++ more) ≡ some b
-    → (c : Book) × (replay p b0 log ≡ some c) × (replay p c more ≡ some b)
+pub replay_prefix : (p : Plan) (b0 b : Book) (log more : List Report) → replay p b0 (log ++ more) ≡ Some b
+    → (c : Book) × (replay p b0 log ≡ Some c) × (replay p c more ≡ Some b)
 unfolding replay
 replay_prefix p b0 b [] more e = (b0, refl, e)
 replay_prefix p b0 b (r ∷ rs) more e =
@@ -90,7 +91,7 @@ replay_prefix p b0 b (r ∷ rs) more e =
 -- ---- its carts and times
 
 -- each report of a log that is replayed names a cart that is there and a time of at most 10^12
-pub log_carts_times : (p : Plan) (b0 b : Book) (log : List Report) → replay p b0 log ≡ some b → (r : Report) → Memᴰ r log
+pub log_carts_times : (p : Plan) (b0 b : Book) (log : List Report) → replay p b0 log ≡ Some b → (r : Report) → Memᴰ r log
     → (1 ≤ r.cart) × (r.cart ≤ length p.carts) × (r.time ≤ 1_000_000_000_000)
 log_carts_times p b0 b [] e r m = absurd (Memᴰ.not-nil m)
 log_carts_times p b0 b (x ∷ xs) e r m =
@@ -122,7 +123,7 @@ abbrev pub counts : List Route → List ℕ
 counts rs = map (λ (r : Route). length (route_points r)) rs
 
 -- each report of a log passes a point
-log_left : (p : Plan) (b0 b : Book) (log : List Report) → length b0.passed ≡ length (routes_of p) → replay p b0 log ≡ some b
+log_left : (p : Plan) (b0 b : Book) (log : List Report) → length b0.passed ≡ length (routes_of p) → replay p b0 log ≡ Some b
     → length log ≤ left (counts (routes_of p)) b0.passed
 unfolding pass_next points_of passed_by
 log_left p b0 b [] s e = omega arith
@@ -157,7 +158,7 @@ points_count [] = refl
 points_count (r ∷ rs) = omega (arith, length-append (route_points r) (flat_map route_points rs), points_count rs)
 
 -- a log that is replayed from the first book has no more reports than the plan has points
-pub log_short : (p : Plan) (b : Book) (log : List Report) → replay p (first_book p) log ≡ some b → length log + 2 ≤ event_count p
+pub log_short : (p : Plan) (b : Book) (log : List Report) → replay p (first_book p) log ≡ Some b → length log + 2 ≤ event_count p
 unfolding first_book
 log_short p b log e =
     let firsts : List (List ℕ) = map (λ (r : Route). 0 ∷ []) (routes_of p) in

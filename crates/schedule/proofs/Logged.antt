@@ -1,18 +1,18 @@
 -- An accepted plan and a book that a log of accepted reports gives: their arcs go between events, add no more than 10^12 either way, and lead from the
 -- start to every event with a sum of at least 0. Assumes nothing.
+use Rattle.std.specs.Prelude.{Option, None, Some, Ok}
 use Prim.Native.Nat.{ℕ, zero, suc, ◌≤◌, ◌<◌}
 use native.Mathlib.Omega.{arith}
 use mathlib.Core.Path.{◌≡◌, refl, ap, sym, subst}
 use mathlib.Core.Logic.{◌⊎◌, inl, inr, ⊎_elim}
 use mathlib.Core.List.Memᴰ
 use mathlib.Core.List.{List, [], ◌∷◌, Memᴰ}
-use mathlib.Core.Option.{Option, none, some, none-ne-some, some-injective}
 use lib.IntN.{ℤ, pos, ◌+ℤ◌}
 use lib.Signed.{◌≤ℤ◌}
 use lib.ListN.{length}
+use Rattle.laws.proofs.Options.{none-ne-some, some-injective}
 use Rattle.laws.proofs.Signed.{signed, sum, neg_up, neg_dn, Within}
 use Rattle.laws.proofs.Members.{to_flat, of_flat, of_drop}
-use Rattle.floor.specs.Refusal.{accepted}
 use Rattle.floor.specs.Plan.{Plan}
 use Rattle.floor.specs.Tables.{Tables}
 use Rattle.network.specs.Events.{Route, routes_of, route_events, event_count}
@@ -32,9 +32,9 @@ use Rattle.schedule.proofs.Solutions.{added_cases}
 
 pub record Logged (p : Plan) (b : Book) : Type 0 where
   pub tables : Tables
-  pub of_tables : judge tables ≡ accepted p
+  pub of_tables : judge tables ≡ Ok p
   pub log : List Report
-  pub replayed : replay p (first_book p) log ≡ some b
+  pub replayed : replay p (first_book p) log ≡ Some b
 
 -- ---- where the points of a cart lie
 
@@ -53,7 +53,7 @@ pub record AddedBound (p : Plan) (c : Bound) : Type 0 where
   pub from_start : c.from ≡ 0
   pub to_event : c.to < event_count p
   pub lo_most : c.lo ≤ 1_000_000_000_000
-  pub hi_most : (h : ℕ) → c.hi ≡ some h → h ≤ 1_000_000_000_000
+  pub hi_most : (h : ℕ) → c.hi ≡ Some h → h ≤ 1_000_000_000_000
 
 module _ (p : Plan) (b : Book) (l : Logged p b) where
   pub logged_kept : KeptBook p b
@@ -106,8 +106,8 @@ module _ (p : Plan) (b : Book) (l : Logged p b) where
   way_ends c a m = ⊎_elim (λ (e : a ≡ forward c). inl (ap (λ (x : Arc). x.from) e, ap (λ (x : Arc). x.to) e)) (by c.hi) (Memᴰ.cases_cons m)
     where
       by : (o : Option ℕ) → Memᴰ a (backward c o) → ((a.from ≡ c.from) × (a.to ≡ c.to)) ⊎ ((a.from ≡ c.to) × (a.to ≡ c.from))
-      by none h = absurd (Memᴰ.not-nil h)
-      by (some x) h = let e = Memᴰ.eq_of_singleton h in inr (ap (λ (y : Arc). y.from) e, ap (λ (y : Arc). y.to) e)
+      by None h = absurd (Memᴰ.not-nil h)
+      by (Some x) h = let e = Memᴰ.eq_of_singleton h in inr (ap (λ (y : Arc). y.from) e, ap (λ (y : Arc). y.to) e)
 
   -- every bound goes between events
   pub bound_ends : (c : Bound) → Memᴰ c (all_bounds p b) → (c.from < event_count p) × (c.to < event_count p)
@@ -152,21 +152,21 @@ module _ (p : Plan) (b : Book) (l : Logged p b) where
 
   -- ---- what the arcs add
 
-  pub bound_most : (c : Bound) → Memᴰ c (all_bounds p b) → (c.lo ≤ 1_000_000_000_000) × ((h : ℕ) → c.hi ≡ some h → h ≤ 1_000_000_000_000)
+  pub bound_most : (c : Bound) → Memᴰ c (all_bounds p b) → (c.lo ≤ 1_000_000_000_000) × ((h : ℕ) → c.hi ≡ Some h → h ≤ 1_000_000_000_000)
   unfolding all_bounds
   bound_most c m =
       ⊎_elim (λ k. let (x, y) = bound_sizes l.tables p l.of_tables c k in (omega (arith, x), λ h q. omega (arith, y h q)))
       (λ h. let a = added_bound c h in (a.lo_most, a.hi_most))
       (Memᴰ.append_cases (bounds p) m)
 
-  way_within : (c : Bound) → (c.lo ≤ 1_000_000_000_000) → ((h : ℕ) → c.hi ≡ some h → h ≤ 1_000_000_000_000) → (a : Arc) → Memᴰ a (ways c)
+  way_within : (c : Bound) → (c.lo ≤ 1_000_000_000_000) → ((h : ℕ) → c.hi ≡ Some h → h ≤ 1_000_000_000_000) → (a : Arc) → Memᴰ a (ways c)
       → Within 1_000_000_000_000 a.adds
   unfolding ways forward backward
   way_within c x y a m = ⊎_elim (λ (e : a ≡ forward c). subst (λ (z : Arc). Within 1_000_000_000_000 z.adds) (sym e) (record { above = x; under = omega arith })) (by c.hi refl) (Memᴰ.cases_cons m)
     where
       by : (o : Option ℕ) → c.hi ≡ o → Memᴰ a (backward c o) → Within 1_000_000_000_000 a.adds
-      by none q h = absurd (Memᴰ.not-nil h)
-      by (some h) q k =
+      by None q h = absurd (Memᴰ.not-nil h)
+      by (Some h) q k =
           let g : h ≤ 1_000_000_000_000 = y h q in
           subst (λ (z : Arc). Within 1_000_000_000_000 z.adds) (sym (Memᴰ.eq_of_singleton k))
           (record { above = omega (arith, neg_up (pos h)); under = omega (arith, neg_dn (pos h), g) })

@@ -9,7 +9,8 @@ use mathlib.Core.List.{List, [], ◌∷◌, ◌++◌, map, tail, Memᴰ}
 use lib.ListN.{length, get_or, drop, length-map}
 use borrow.Author.Tests.{eq-eqb, ne_eqb}
 use Rattle.laws.proofs.Rising.{Rises, rises_member}
-use Rattle.floor.specs.Plan.{Cart, Plan}
+use Rattle.floor.specs.Plan.{Plan}
+use Rattle.floor.specs.declared.Cart.{Cart}
 use Rattle.network.specs.Events.{Route, points, visits_of, routes, routes_of, route_points, route_events, places}
 use Rattle.network.specs.Bounds.{Bound, bounds}
 use Rattle.schedule.specs.Book.{Book, passed_at, route_passed, route_to_pass, by_cart}

@@ -1,6 +1,6 @@
 -- A timetable in a form that computes quickly. Assumes nothing.
+use Rattle.std.specs.Prelude.{Option}
 use mathlib.Core.Path.{◌≡◌, ap}
-use mathlib.Core.Option.{Option}
 use Rattle.floor.specs.Plan.{Plan}
 use Rattle.network.specs.Events.{event_count}
 use Rattle.walks.proofs.Quick.{quick, quick_is}

@@ -1,12 +1,13 @@
 -- Books, added bounds, timetables and chains of small plans. Assumes nothing.
+use Rattle.std.specs.Prelude.{None, Some}
 use Prim.Native.Nat.{ℕ}
 use mathlib.Core.Path.{◌≡◌, refl}
 use mathlib.Core.Bool.{true, false}
 use mathlib.Core.List.{List, [], ◌∷◌, map}
-use mathlib.Core.Option.{none, some}
 use lib.ListN.{replicate}
 use Rattle.words.specs.Words.{open_words}
-use Rattle.floor.specs.Plan.{Road, Plan}
+use Rattle.floor.specs.Plan.{Plan}
+use Rattle.floor.specs.declared.Road.{Road}
 use Rattle.network.proofs.Rows.{bound}
 use Rattle.schedule.specs.Book.{Report, ◌at◌, Book, first_book, has_next, in_time, book_after, replay, passed_points, points_to_pass}
 use Rattle.schedule.specs.Added.{Numbered, added_bounds, numbered_bounds}
@@ -21,14 +22,14 @@ road a b = record { from = a; to = b; length = 1_000_000; margin = 250_000 }
 
 -- "One cart, 250,000, path A B"
 one : Plan
-one = record { roads = road 0 1 ∷ []; carts = record { fastest = 250_000; slowest = none } ∷ []; paths = (0 ∷ 1 ∷ []) ∷ [] }
+one = record { roads = road 0 1 ∷ []; carts = record { fastest = 250_000; slowest = None } ∷ []; paths = (0 ∷ 1 ∷ []) ∷ [] }
 
 -- two of them, each on a road of its own
 two : Plan
 two =
     record {
       roads = road 0 1 ∷ road 2 3 ∷ [];
-      carts = record { fastest = 250_000; slowest = none } ∷ record { fastest = 250_000; slowest = none } ∷ [];
+      carts = record { fastest = 250_000; slowest = None } ∷ record { fastest = 250_000; slowest = None } ∷ [];
       paths = (0 ∷ 1 ∷ []) ∷ (2 ∷ 3 ∷ []) ∷ [];
     }
 
@@ -51,10 +52,10 @@ books_follow = refl
 
 -- the log is replayed from its first entry on, and an entry that no book takes undoes it
 replay_follows : map (replay two (first_book two)) ([] ∷ ((2 at 10) ∷ (2 at 20) ∷ []) ∷ ((2 at 20) ∷ (2 at 10) ∷ []) ∷ ((3 at 10) ∷ []) ∷ [])
-    ≡ some (record { clock = 0; passed = (0 ∷ []) ∷ (0 ∷ []) ∷ [] })
-    ∷ some (record { clock = 20; passed = (0 ∷ []) ∷ (0 ∷ 10 ∷ 20 ∷ []) ∷ [] })
-    ∷ none
-    ∷ none
+    ≡ Some (record { clock = 0; passed = (0 ∷ []) ∷ (0 ∷ []) ∷ [] })
+    ∷ Some (record { clock = 20; passed = (0 ∷ []) ∷ (0 ∷ 10 ∷ 20 ∷ []) ∷ [] })
+    ∷ None
+    ∷ None
     ∷ []
 unfolding open_schedule two road
 replay_follows = refl
@@ -83,7 +84,7 @@ unfolding open_schedule two road book
 to_pass_follow = refl
 
 added_follow : added_bounds two (book two ((2 at 1500) ∷ []))
-    ≡ bound 0 2 1500 none ∷ bound 0 3 1500 none ∷ bound 0 4 1500 none ∷ bound 0 6 1500 (some 1500) ∷ bound 0 7 1500 none ∷ bound 0 8 1500 none ∷ []
+    ≡ bound 0 2 1500 None ∷ bound 0 3 1500 None ∷ bound 0 4 1500 None ∷ bound 0 6 1500 (Some 1500) ∷ bound 0 7 1500 None ∷ bound 0 8 1500 None ∷ []
 unfolding open_schedule two road book bound
 added_follow = refl
 
@@ -94,10 +95,10 @@ numbers_follow = refl
 
 -- one move in a row takes five passes; a report of cart 2 moves cart 1 by the clock
 times_follow : timetable one (book one []) ∷ timetable one (book one ((1 at 1500) ∷ [])) ∷ timetable one (book one ((1 at 500) ∷ [])) ∷ timetable two (book two ((2 at 1500) ∷ [])) ∷ []
-    ≡ some (record { times = 0 ∷ 0 ∷ 1000 ∷ 3000 ∷ 4000 ∷ 4000 ∷ []; passes = 5 })
-    ∷ some (record { times = 0 ∷ 0 ∷ 1500 ∷ 3500 ∷ 4500 ∷ 4500 ∷ []; passes = 4 })
-    ∷ none
-    ∷ some (record { times = 0 ∷ 0 ∷ 1500 ∷ 3500 ∷ 4500 ∷ 0 ∷ 1500 ∷ 3500 ∷ 4500 ∷ 4500 ∷ []; passes = 4 })
+    ≡ Some (record { times = 0 ∷ 0 ∷ 1000 ∷ 3000 ∷ 4000 ∷ 4000 ∷ []; passes = 5 })
+    ∷ Some (record { times = 0 ∷ 0 ∷ 1500 ∷ 3500 ∷ 4500 ∷ 4500 ∷ []; passes = 4 })
+    ∷ None
+    ∷ Some (record { times = 0 ∷ 0 ∷ 1500 ∷ 3500 ∷ 4500 ∷ 0 ∷ 1500 ∷ 3500 ∷ 4500 ∷ 4500 ∷ []; passes = 4 })
     ∷ []
 unfolding open_schedule one two road book
 times_follow = refl

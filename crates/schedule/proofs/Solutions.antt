@@ -1,11 +1,12 @@
 -- Times fit exactly when they solve the arcs: when every bound, added ones included, followed either way, allows them. Assumes nothing.
+use Rattle.std.specs.Prelude.{Option, None, Some}
 use Prim.Native.Nat.{ℕ}
 use mathlib.Core.Path.{◌≡◌, refl, ap, sym, ◌∙◌, subst}
 use mathlib.Core.Logic.{◌↔◌, ◌⊎◌, inl, inr, ⊎_elim}
 use mathlib.Core.List.{List, [], ◌∷◌, map, tail, Memᴰ}
-use mathlib.Core.Option.{Option, none, some, none-ne-some, some-injective}
 use lib.IntN.{pos, neg_ℤ, ◌+ℤ◌, ◌-ℤ◌}
 use lib.Signed.{◌≤ℤ◌}
+use Rattle.laws.proofs.Options.{none-ne-some, some-injective}
 use Rattle.laws.proofs.Signed.{signed, sum, difference, neg_up, neg_dn}
 use Rattle.laws.proofs.Members.{to_flat, of_flat, of_tail}
 use Rattle.floor.specs.Plan.{Plan}
@@ -38,8 +39,8 @@ met_allows t b m a h = ⊎_elim (λ (e : a ≡ forward b). subst (Allowed t) (sy
         omega (signed, l, sum (t b.from) (pos b.lo), difference (t b.to) (t b.from))
 
     back : (hi : Option ℕ) → b.hi ≡ hi → Memᴰ a (backward b hi) → Allowed t a
-    back none q k = absurd (mathlib.Core.List.Memᴰ.not-nil k)
-    back (some h) q k =
+    back None q k = absurd (mathlib.Core.List.Memᴰ.not-nil k)
+    back (Some h) q k =
         let u = m.upper h q in
         subst (Allowed t) (sym (mathlib.Core.List.Memᴰ.eq_of_singleton k))
         (omega (signed, u, sum (t b.to) (neg_ℤ (pos h)), neg_up (pos h), neg_dn (pos h), difference (t b.to) (t b.from)))
@@ -54,7 +55,7 @@ allowed_meets t b h = record { lower = low; upper = high }
         let l : Allowed t (forward b) = h (forward b) (mathlib.Core.List.Memᴰ.head refl) in
         omega (signed, l, sum (t b.from) (pos b.lo), difference (t b.to) (t b.from))
 
-    high : (x : ℕ) → b.hi ≡ some x → (t b.to -ℤ t b.from) ≤ℤ pos x
+    high : (x : ℕ) → b.hi ≡ Some x → (t b.to -ℤ t b.from) ≤ℤ pos x
     high x q =
         let a : Arc = record { from = b.to; to = b.from; adds = neg_ℤ (pos x) } in
         let m : Memᴰ a (backward b b.hi) = subst (λ (o : Option ℕ). Memᴰ a (backward b o)) (sym q) (mathlib.Core.List.Memᴰ.head refl) in
@@ -139,7 +140,7 @@ module _ (p : Plan) (b : Book) (kept : KeptBook p b) where
   first_entry : (t : Times) → Solves (arcs p b) t → (r : Route) → Memᴰ r (routes_of p) → t r.first ≡ pos 0
   unfolding all_bounds
   first_entry t s r m =
-      let k : Meets t (record { from = 0; to = r.first; lo = 0; hi = some 0 }) = solved_met t s _ (mathlib.Core.List.Memᴰ.append_left (added_bounds p b) (first_bound p r m)) in
+      let k : Meets t (record { from = 0; to = r.first; lo = 0; hi = Some 0 }) = solved_met t s _ (mathlib.Core.List.Memᴰ.append_left (added_bounds p b) (first_bound p r m)) in
       let l = k.lower in
       let u = k.upper 0 refl in
       let z = s.zeroed in

@@ -1,8 +1,7 @@
 -- The bounds that a timetable goes by: the plan's own and those that the book adds (document 01, "Reports and timetable").
 -- Assumes nothing.
-use Rattle.std.specs.Prelude.{ℕ, suc, ◌+◌}
+use Rattle.std.specs.Prelude.{ℕ, suc, ◌+◌, None, Some}
 use mathlib.Core.List.{List, [], ◌∷◌, ◌++◌, map, tail}
-use Rattle.std.proofs.Math.Option.{none, some}
 use Rattle.floor.specs.Plan.{Plan}
 use Rattle.network.specs.Events.{Route, routes_of}
 use Rattle.network.specs.Bounds.{Bound, bounds}
@@ -10,11 +9,11 @@ use Rattle.schedule.specs.Book.{Book, Passed, route_passed, route_to_pass, by_ca
 
 -- "each reported event e carries an added bound [time, time] from the start"
 unfoldable pub reported_bound : Passed → Bound
-reported_bound x = record { from = 0; to = x.event; lo = x.time; hi = some x.time }
+reported_bound x = record { from = 0; to = x.event; lo = x.time; hi = Some x.time }
 
 -- "and each cart event passed by no report, first entries excepted, one of [clock, none]"
 unfoldable pub clock_bound : ℕ → ℕ → Bound
-clock_bound clock e = record { from = 0; to = e; lo = clock; hi = none }
+clock_bound clock e = record { from = 0; to = e; lo = clock; hi = None }
 
 -- those of one cart, its first entry excepted
 unfoldable pub route_added : ℕ → Route → List ℕ → List Bound

@@ -1,7 +1,6 @@
 -- The marker's book (document 01, "Reports and timetable").
 -- Assumes nothing.
-use Rattle.std.specs.Prelude.{ℕ, ◌-◌, Bool, true, false, ◌&&◌, cond, List, [], ◌∷◌, ◌++◌, map, leb, ltb, length, get_or, set, drop}
-use Rattle.std.proofs.Math.Option.{Option, none, some}
+use Rattle.std.specs.Prelude.{ℕ, ◌-◌, Bool, true, false, ◌&&◌, cond, List, [], ◌∷◌, ◌++◌, map, leb, ltb, length, get_or, set, drop, Option, None, Some}
 use Rattle.floor.specs.Plan.{Plan}
 use Rattle.network.specs.Events.{Route, routes_of, route_points, route_events}
 
@@ -59,8 +58,8 @@ book_after p b r = cond (acceptable p b r) (pass_next b r) b
 
 -- the book after some reports, if each in its turn is accepted
 unfoldable pub replay : Plan → Book → List Report → Option Book
-replay p b [] = some b
-replay p b (r ∷ rs) = elim (acceptable p b r) [ true ↦ replay p (pass_next b r) rs | false ↦ none ]
+replay p b [] = Some b
+replay p b (r ∷ rs) = elim (acceptable p b r) [ true ↦ replay p (pass_next b r) rs | false ↦ None ]
 
 -- a point passed: its event, and its time
 pub record Passed : Type 0 where

@@ -1,7 +1,6 @@
 -- A chain: why no times exist (document 01, "Reports and timetable").
 -- Assumes nothing.
-use Rattle.std.specs.Prelude.{ℕ, Bool, true, false, ◌&&◌, ◌||◌, not, cond, List, [], ◌∷◌, eqb, ℤ, pos, neg_ℤ, ◌+ℤ◌}
-use Rattle.std.proofs.Math.Option.{Option, none, some}
+use Rattle.std.specs.Prelude.{ℕ, Bool, true, false, ◌&&◌, ◌||◌, not, cond, List, [], ◌∷◌, eqb, ℤ, pos, neg_ℤ, ◌+ℤ◌, Option, None, Some}
 use Rattle.std.specs.Int.Signed.{lt_z}
 use Rattle.floor.specs.Plan.{Plan}
 use Rattle.network.specs.Bounds.{Bound}
@@ -30,23 +29,23 @@ pub record Leg : Type 0 where
 
 -- "0 goes from u to v and costs hi (never taken where hi is none)"
 unfoldable pub onward_leg : Bound → Option ℕ → Option Leg
-onward_leg b none = none
-onward_leg b (some h) = some (record { begins = b.from; ends = b.to; costs = pos h })
+onward_leg b None = None
+onward_leg b (Some h) = Some (record { begins = b.from; ends = b.to; costs = pos h })
 
 -- "1 goes back and costs −lo"
 unfoldable pub leg : Bound → Direction → Option Leg
 leg b onward = onward_leg b b.hi
-leg b back = some (record { begins = b.to; ends = b.from; costs = neg_ℤ (pos b.lo) })
+leg b back = Some (record { begins = b.to; ends = b.from; costs = neg_ℤ (pos b.lo) })
 
 -- the leg of an item, by its bound's number
 unfoldable pub leg_of : List Numbered → Item → Option Leg
-leg_of [] i = none
+leg_of [] i = None
 leg_of (b ∷ bs) i = cond (eqb b.number i.number) (leg b.bound i.direction) (leg_of bs i)
 
 -- the legs of a list of items, if each has one
 unfoldable pub legs : List Numbered → List Item → Option (List Leg)
-legs bs [] = some []
-legs bs (i ∷ is) = elim (leg_of bs i) [ none ↦ none | some l ↦ elim (legs bs is) [ none ↦ none | some ls ↦ some (l ∷ ls) ] ]
+legs bs [] = Some []
+legs bs (i ∷ is) = elim (leg_of bs i) [ None ↦ None | Some l ↦ elim (legs bs is) [ None ↦ None | Some ls ↦ Some (l ∷ ls) ] ]
 
 -- "Each item begins at the event where the one before it ends, the last ends where the first begins": from event u on, and back to event e
 unfoldable pub linked : ℕ → ℕ → List Leg → Bool
@@ -70,9 +69,9 @@ cost (l ∷ ls) = l.costs +ℤ cost ls
 
 -- "come below 0"
 unfoldable pub closed_below_0 : Option (List Leg) → Bool
-closed_below_0 none = false
-closed_below_0 (some []) = false
-closed_below_0 (some (l ∷ ls)) = linked l.ends l.begins ls && no_event_twice (l ∷ ls) && lt_z (cost (l ∷ ls)) (pos 0)
+closed_below_0 None = false
+closed_below_0 (Some []) = false
+closed_below_0 (Some (l ∷ ls)) = linked l.ends l.begins ls && no_event_twice (l ∷ ls) && lt_z (cost (l ∷ ls)) (pos 0)
 
 -- a chain as defined, of a plan and its book
 unfoldable pub is_chain : Plan → Book → List Item → Bool

@@ -1,8 +1,7 @@
 -- The answer of a timetable where times exist (document 01, "Reports and timetable").
 -- Assumes nothing.
-use Rattle.std.specs.Prelude.{ℕ, ℤ, pos, negsuc, neg_ℤ}
+use Rattle.std.specs.Prelude.{ℕ, ℤ, pos, negsuc, neg_ℤ, Option, None, Some}
 use mathlib.Core.List.{List, [], ◌∷◌, map, flat_map}
-use Rattle.std.proofs.Math.Option.{Option, none, some}
 use Rattle.floor.specs.Plan.{Plan}
 use Rattle.network.specs.Events.{event_count}
 use Rattle.network.specs.Bounds.{Bound}
@@ -17,8 +16,8 @@ forward b = record { from = b.from; to = b.to; adds = pos b.lo }
 
 -- "backward subtracts hi, and hi none is not followed"
 unfoldable pub backward : Bound → Option ℕ → List Arc
-backward b none = []
-backward b (some h) = record { from = b.to; to = b.from; adds = neg_ℤ (pos h) } ∷ []
+backward b None = []
+backward b (Some h) = record { from = b.to; to = b.from; adds = neg_ℤ (pos h) } ∷ []
 
 -- a bound followed either way
 unfoldable pub ways : Bound → List Arc
@@ -30,9 +29,9 @@ arcs p b = flat_map ways (all_bounds p b)
 
 -- the time of an event: its greatest sum; 0 stands in where there is none or it is below 0 (docs/DECISIONS.md, "Sums that are no times")
 unfoldable pub time : Option ℤ → ℕ
-time none = 0
-time (some (pos n)) = n
-time (some (negsuc n)) = 0
+time None = 0
+time (Some (pos n)) = n
+time (Some (negsuc n)) = 0
 
 -- "The answer is a time for every event and the number of passes"
 pub record Timetable : Type 0 where
@@ -41,8 +40,8 @@ pub record Timetable : Type 0 where
 
 -- the times of the sums that have settled
 unfoldable pub timetable_of : Option Settled → Option Timetable
-timetable_of none = none
-timetable_of (some s) = some (record { times = map time s.sums; passes = s.passes })
+timetable_of None = None
+timetable_of (Some s) = Some (record { times = map time s.sums; passes = s.passes })
 
 -- the timetable of a plan and its book; none: "13: no times exist"
 unfoldable pub timetable : Plan → Book → Option Timetable

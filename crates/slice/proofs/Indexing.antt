@@ -1,100 +1,73 @@
 -- The index of the roads that the reader of a slice hands on: where a plan is read it is that of its roads, else that of no road. Assumes nothing.
+use Rattle.std.specs.Prelude.{Err, Ok}
 use Prim.Native.Nat.{ℕ}
 use mathlib.Core.Path.{◌≡◌, refl, ap, sym, ◌∙◌, subst}
-use mathlib.Core.Logic.{◌≢◌, ◌⊎◌, inl, inr, ⊎_elim}
-use mathlib.Core.Bool.{Bool, true, false, true≢false}
+use mathlib.Core.Bool.{true, false, true≢false}
 use mathlib.Core.List.{List}
-use lib.ListN.{length, replicate}
-use Rattle.tables.specs.declared.Reading.{Reading}
-use Rattle.tables.specs.Index.{Indexed, IndexLeft}
-use Rattle.tables.specs.Reading.{roads_read}
+use lib.ListN.{length}
+use Rattle.tables.specs.declared.Size.{Size}
+use Rattle.tables.specs.Index.{Indexed, IndexLeft, IndexCleared, index_room}
+use Rattle.tables.specs.declared.lent.RoadIndex.{RoadIndex}
+use Rattle.tables.specs.Reading.{Answer as Said, roads_read}
 use Rattle.tables.proofs.Indexes.{none_indexed}
-use Rattle.tables.proofs.TablesRead.{index_other, index_there, index_is, index_fits}
+use Rattle.tables.proofs.TablesRead.{index_self, index_on, index_there, room_same}
 use Rattle.slice.specs.declared.Holding.{Holding}
-use Rattle.slice.specs.Holding.{roads_held, IndexHeld}
-
--- ---- what an answer tells of
-
--- whether it tells of a plan
-tells_plan : Holding → Bool
-tells_plan Holding.TooShort = false
-tells_plan Holding.NoPlan = false
-tells_plan (Holding.Held a b w n) = true
-
--- where an array is too short it does not
-short_not_held : (i j w m : ℕ) → Holding.TooShort ≡ Holding.Held i j w m → ⊥
-unfolding tells_plan
-short_not_held i j w m e = true≢false (sym (ap tells_plan e))
-
--- nor where there is none
-none_not_held : (i j w m : ℕ) → Holding.NoPlan ≡ Holding.Held i j w m → ⊥
-unfolding tells_plan
-none_not_held i j w m e = true≢false (sym (ap tells_plan e))
+use Rattle.slice.specs.declared.HoldError.{HoldError}
+use Rattle.slice.specs.Holding.{Answer, roads_held, IndexHeld}
 
 -- ---- what is left of an index that may be half made
 
 -- nothing is read
-pub index_unread : (s h k : List ℕ) → (x : Holding) → ((i j w m : ℕ) → x ≡ Holding.Held i j w m → ⊥) → IndexHeld x s h k h k
-index_unread s h k x never = record { where_held = λ i j w m e. absurd (never i j w m e); else_same = λ e. (refl, refl) }
-
--- something is too short
-pub index_too_short : (s h k : List ℕ) → IndexHeld Holding.TooShort s h k h k
-index_too_short s h k = index_unread s h k Holding.TooShort short_not_held
-
--- the slice is laid out otherwise
-pub index_broken : (s h k : List ℕ) → IndexHeld Holding.NoPlan s h k h k
-index_broken s h k = index_unread s h k Holding.NoPlan none_not_held
+pub index_unread : (s : List ℕ) (i : RoadIndex) (why : HoldError) → IndexHeld (Err why) s i i
+index_unread s i why = record { same = index_self i; where_held = λ n e. absurd (cc); else_same = λ e. (refl, refl) }
 
 -- no plan, whatever else is left
-pub index_none : (x : Holding) (s t h k h' k' : List ℕ) → x ≡ Holding.NoPlan → IndexHeld x s h k h' k' → IndexHeld x t h k h' k'
-index_none x s t h k h' k' q l =
-    record { where_held = λ i j w m e. absurd (none_not_held i j w m (sym q ∙ e)); else_same = l.else_same }
+pub index_none : (x : Answer) (why : HoldError) (s t : List ℕ) (i j : RoadIndex) → x ≡ Err why → IndexHeld x s i j → IndexHeld x t i j
+index_none x why s t i j q l = record { same = l.same; where_held = λ n e. absurd (cc); else_same = l.else_same }
 
 -- the tables gave none
-pub index_refused : (x : Reading) (s h k h' k' : List ℕ) → IndexLeft (roads_read x) s h k h' k' → IndexHeld Holding.NoPlan s h k h' k'
-index_refused x s h k h' k' l = record { where_held = λ i j w m e. absurd (none_not_held i j w m e); else_same = l.else_same }
+pub index_refused : (x : Said) (why : HoldError) (s : List ℕ) (i j : RoadIndex) → IndexLeft (roads_read x) s i j → IndexHeld (Err why) s i j
+index_refused x why s i j l = record { same = l.same; where_held = λ n e. absurd (cc); else_same = l.else_same }
 
 -- they gave one
-pub index_read : (x : Reading) (a b w n : ℕ) (s h k h' k' : List ℕ) → x ≡ Reading.Read a b w → IndexLeft (roads_read x) s h k h' k'
-    → IndexHeld (Holding.Held a b w n) s h k h' k'
+pub index_read : (x : Said) (m : Size) (n : ℕ) (s : List ℕ) (i j : RoadIndex) → x ≡ Ok m → IndexLeft (roads_read x) s i j
+    → IndexHeld (Ok (record { size = m; reports = n })) s i j
 unfolding roads_read roads_held
-index_read x a b w n s h k h' k' q l =
+index_read x m n s i j q l =
     record {
-      where_held = λ i j v m e room. subst (λ (u : ℕ). Indexed u s h' k') (ap roads_read q ∙ ap roads_held e) (l.where_room room);
+      same = l.same;
+      where_held = λ h e room. subst (λ (u : ℕ). Indexed u s j.heads.now j.nexts.now) (ap roads_read q ∙ ap roads_held e) (l.where_room room);
       else_same = l.else_same;
     }
 
 -- ---- what is handed on
 
 -- no room
-pub index_kept : (x : Holding) (s h k h' k' : List ℕ) → (length h' ≢ 1024) ⊎ (length k' ≢ 1024) → length h' ≡ length h → length k' ≡ length k
-    → IndexHeld x s h k h' k' → IndexLeft (roads_held x) s h k h' k'
-index_kept x s h k h' k' o lh lk l =
+pub index_kept : (x : Answer) (s : List ℕ) (i j : RoadIndex) → index_room j ≡ false → IndexHeld x s i j → IndexLeft (roads_held x) s i j
+index_kept x s i j short l =
+    record { same = l.same; where_room = λ e. absurd (true≢false (sym e ∙ sym (room_same i j l.same) ∙ short)); else_same = l.else_same }
+
+-- a plan
+pub index_handed : (x : Answer) (n : Holding) (s : List ℕ) (i j : RoadIndex) → x ≡ Ok n → IndexHeld x s i j → IndexLeft (roads_held x) s i j
+unfolding roads_held
+index_handed x n s i j e l =
     record {
-      where_room = λ e. absurd (true≢false (sym e ∙ index_other h k (⊎_elim (λ n. inl (λ q. n (lh ∙ q))) (λ n. inr (λ q. n (lk ∙ q))) o)));
+      same = l.same;
+      where_room = λ room. subst (λ (u : ℕ). Indexed u s j.heads.now j.nexts.now) (sym (ap roads_held e)) (l.where_held n e room);
       else_same = l.else_same;
     }
 
--- room, and a plan
-pub index_handed : (x : Holding) (i j w m : ℕ) (s h k h' k' : List ℕ) → x ≡ Holding.Held i j w m → length h ≡ 1024 → length k ≡ 1024
-    → IndexHeld x s h k h' k' → IndexLeft (roads_held x) s h k h' k'
-unfolding roads_held
-index_handed x i j w m s h k h' k' e lh lk l =
-    index_there (roads_held x) s h k h' k' lh lk (subst (λ (u : ℕ). Indexed u s h' k') (sym (ap roads_held e)) (l.where_held i j w m e (index_fits h k lh lk)))
-
 -- room, and none: zeros are the index
-pub index_cleared : (x : Holding) → ((i j w m : ℕ) → x ≡ Holding.Held i j w m → ⊥) → (s h k h' k' : List ℕ) → length h ≡ 1024 → length k ≡ 1024
-    → (a b : ℕ) → h' ≡ replicate a 0 → k' ≡ replicate b 0 → IndexLeft (roads_held x) s h k h' k'
+pub index_cleared : (x : Answer) (why : HoldError) → x ≡ Err why → (s : List ℕ) (i j k : RoadIndex) → IndexHeld x s i j → index_room j ≡ true → IndexCleared j k
+    → IndexLeft (roads_held x) s i k
 unfolding roads_held
-index_cleared x never s h k h' k' lh lk a b e f = index_there (roads_held x) s h k h' k' lh lk (by x never)
-  where
-    by : (y : Holding) → ((i j w m : ℕ) → y ≡ Holding.Held i j w m → ⊥) → Indexed (roads_held y) s h' k'
-    by (Holding.Held i j w m) never = absurd (never i j w m refl)
-    by Holding.TooShort never = none_indexed a b s h' k' e f
-    by Holding.NoPlan never = none_indexed a b s h' k' e f
+index_cleared x why q s i j k l room c =
+    index_there (roads_held x) s i k (index_on i j k l.same c.same) (sym (room_same i j l.same) ∙ room)
+    (subst (λ (y : Answer). Indexed (roads_held y) s k.heads.now k.nexts.now) (sym q)
+    (none_indexed (length j.heads.now) (length j.nexts.now) s k.heads.now k.nexts.now c.heads c.nexts))
 
 -- where a plan is told of, it is that of its roads
-pub index_held : (x : Holding) (i j w m : ℕ) (s h k h' k' : List ℕ) → x ≡ Holding.Held i j w m → length h ≡ 1024 → length k ≡ 1024
-    → IndexLeft (roads_held x) s h k h' k' → Indexed i s h' k'
+pub index_held : (x : Answer) (n : Holding) (s : List ℕ) (i j : RoadIndex) → x ≡ Ok n → index_room i ≡ true → IndexLeft (roads_held x) s i j
+    → Indexed n.size.roads s j.heads.now j.nexts.now
 unfolding roads_held
-index_held x i j w m s h k h' k' e lh lk l = subst (λ (u : ℕ). Indexed u s h' k') (ap roads_held e) (index_is (roads_held x) s h k h' k' lh lk l)
+index_held x n s i j e room l = subst (λ (u : ℕ). Indexed u s j.heads.now j.nexts.now) (ap roads_held e) (l.where_room room)

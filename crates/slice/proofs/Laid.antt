@@ -1,16 +1,21 @@
 -- How a plan slice is laid out: it holds its tables and its log and nothing else exactly where zeros follow the text of each part. Assumes nothing.
+use Rattle.std.specs.Prelude.{Option, None, Some, unwrap_or}
+use Rattle.std.specs.Bool.{then_some}
+use Rattle.std.specs.List.{fold, position, position_or_len}
+use Rattle.std.proofs.lemmas.List.Recursion.{is_position_or_len}
+use Rattle.std.proofs.Common.{min, max, nat_lt}
 use Prim.Native.Nat.{ℕ, zero, suc, ◌+◌, ◌*◌, ◌-◌, ◌≤◌, ◌<◌}
 use native.Mathlib.Nat.{min-le_left}
-use native.Mathlib.Numerals.{add-one}
 use native.Mathlib.Omega.{arith}
 use mathlib.Core.Path.{◌≡◌, refl, ap, ap₂, sym, ◌∙◌, subst}
 use mathlib.Core.Logic.{⊎_elim}
-use mathlib.Core.Bool.{Bool, true, false, not, ◌&&◌, cond, and_assoc, and-false, and-true}
+use mathlib.Core.Bool.{Bool, true, false, ◌&&◌, cond, and_assoc, and-true}
 use mathlib.Core.List.{List, [], ◌∷◌, ◌++◌, append_assoc}
 use lib.Dec.{eqb, eqb-zero-suc, eqb-suc-zero, lit<, lit≤}
 use lib.ListN.{length, take, drop, get_or, replicate, length-append, length-take, length-drop, length-map, replicate-append-replicate, get_or-eq_default, drop_of_length-le}
-use lib.Seq.{take-nil, take-add, take_all, drop-drop, drop-cons, length-take-le, get_or-take, get_or-drop}
-use borrow.Author.Tests.{not-true, not-false, eq-eqb, ne_eqb, eqb-true}
+use lib.Seq.{take-nil, take-add, take_all, drop-drop, length-take-le, get_or-take, get_or-drop}
+use borrow.Author.Tests.{eq-eqb, ne_eqb, eqb-false, ltb-false}
+use Rattle.laws.proofs.Options.{none-ne-some, some-injective}
 use Rattle.laws.proofs.Tests.{passes, below_or_not}
 use Rattle.words.specs.Words.{little, word, words, padded}
 use Rattle.words.proofs.Padding.{padded_length}
@@ -23,7 +28,7 @@ use Rattle.book.specs.Log.{entries}
 use Rattle.slice.specs.declared.Layout.{Layout}
 use Rattle.slice.specs.PlanSlice.{plan_slice, until_zero, tables_in, log_in, nothing_else}
 use Rattle.slice.specs.Holding.{only_zeros, layout}
-use Rattle.slice.specs.Texts.{zeros_follow, texts_laid}
+use Rattle.slice.specs.Texts.{zeros_follow, text_laid, texts_laid}
 use Rattle.slice.proofs.Slice.{carts_of, times_of, in_a_row}
 
 -- every place is a byte
@@ -43,6 +48,10 @@ part_rest s a n h = take_all (length s - a) (drop a s) (omega (arith, length-dro
 -- else all
 pub part_all : (s : List ℕ) (a n : ℕ) → take (a + n - a) (drop a s) ≡ take n (drop a s)
 part_all s a n = let e : a + n - a ≡ n = omega arith in ap (λ (i : ℕ). take i (drop a s)) e
+
+-- the part `&s[i..]` is all from there on
+pub rest_is : (s : List ℕ) (i : ℕ) → take (length s - i) (drop i s) ≡ drop i s
+rest_is s i = take_all (length s - i) (drop i s) (omega (arith, length-drop i s))
 
 -- as many as the slice has are all from there on
 pub rest_of : (s : List ℕ) (a : ℕ) → take (length s) (drop a s) ≡ drop a s
@@ -71,69 +80,63 @@ text_short (b ∷ x) = by (eqb b 0) (text_short x)
     by true more = omega arith
     by false more = omega arith
 
--- a zero ends them
-pub text_ends : (s : List ℕ) (i : ℕ) → i < length s → get_or s i 0 ≡ 0 → length (until_zero (drop i s)) ≡ 0
+-- they end at the first zero, so that many bytes pass before one that is zero
+pub text_place : (x : List ℕ) → length (until_zero x) ≡ position_or_len (λ b. eqb b 0) x
 unfolding until_zero
-text_ends s i h e =
-    ap (λ (x : List ℕ). length (until_zero x)) (drop-cons s i 0 h)
-    ∙ ap (λ (t : Bool). length {A = ℕ} (elim t as (λ _. List ℕ) [ true ↦ [] | false ↦ get_or s i 0 ∷ until_zero (drop (suc i) s) ])) (eq-eqb (get_or s i 0) 0 e)
+text_place x = is_position_or_len (λ (l : List ℕ). length (until_zero l)) (λ b. eqb b 0) refl (λ b l. by b l (eqb b 0)) x
+  where
+    by : (b : ℕ) (l : List ℕ) (t : Bool)
+        → length {A = ℕ} (elim t as (λ _. List ℕ) [ true ↦ [] | false ↦ b ∷ until_zero l ]) ≡ cond t 0 (1 + length (until_zero l))
+    by b l true = refl
+    by b l false = omega arith
 
--- another byte is one more
-pub text_goes : (s : List ℕ) (i : ℕ) → i < length s → (get_or s i 0 ≡ 0 → ⊥) → length (until_zero (drop i s)) ≡ suc (length (until_zero (drop (i + 1) s)))
-unfolding until_zero
-text_goes s i h e =
-    ap (λ (x : List ℕ). length (until_zero x)) (drop-cons s i 0 h)
-    ∙ ap (λ (t : Bool). length {A = ℕ} (elim t as (λ _. List ℕ) [ true ↦ [] | false ↦ get_or s i 0 ∷ until_zero (drop (suc i) s) ])) (ne_eqb (get_or s i 0) 0 e)
-    ∙ ap (λ (j : ℕ). suc (length (until_zero (drop j s)))) (sym (add-one i))
+-- where that is found
+pub before_zero : (s : List ℕ) (o : Option ℕ) → o ≡ position (λ b. eqb b 0) s → unwrap_or o (length s) ≡ length (until_zero s)
+before_zero s o e = ap (λ (i : Option ℕ). unwrap_or i (length s)) e ∙ by (nat_lt (position_or_len (λ b. eqb b 0) s) (length s)) refl ∙ sym (text_place s)
+  where
+    by : (t : Bool) → nat_lt (position_or_len (λ b. eqb b 0) s) (length s) ≡ t
+        → unwrap_or (cond t (Some (position_or_len (λ b. eqb b 0) s)) None) (length s) ≡ position_or_len (λ b. eqb b 0) s
+    by true k = refl
+    by false k = let l : length s ≤ position_or_len (λ b. eqb b 0) s = ltb-false _ _ k in omega (arith, l, text_place s, text_short s)
 
 -- as many bytes more as are none of them zero
-pub text_block : (s : List ℕ) (i k : ℕ) → i + k ≤ length s → ((j : ℕ) → j < k → 0 < get_or s (i + j) 0)
-    → length (until_zero (drop i s)) ≡ k + length (until_zero (drop (i + k) s))
-text_block s i zero h f = let here : i ≡ i + 0 = omega arith in omega (arith, ap (λ (j : ℕ). length (until_zero (drop j s))) here)
-text_block s i (suc k) h f =
-    let first : i + 0 ≡ i = omega arith in
-    let one : length (until_zero (drop i s)) ≡ suc (length (until_zero (drop (i + 1) s))) =
-    text_goes s i (omega arith) (λ e. let some : 0 < get_or s i 0 = subst (λ (j : ℕ). 0 < get_or s j 0) first (f 0 (omega arith)) in omega (arith, e, some)) in
-    let rest : length (until_zero (drop (i + 1) s)) ≡ k + length (until_zero (drop (i + 1 + k) s)) =
-    text_block s (i + 1) k (omega arith) (λ j l. let next : i + suc j ≡ i + 1 + j = omega arith in subst (λ (m : ℕ). 0 < get_or s m 0) next (f (suc j) (omega arith))) in
-    let end : i + 1 + k ≡ i + suc k = omega arith in
-    omega (arith, one, rest, ap (λ (m : ℕ). length (until_zero (drop m s))) end)
-
--- none is left at the end
-pub text_over : (s : List ℕ) (i : ℕ) → length s ≤ i → length (until_zero (drop i s)) ≡ 0
+pub text_block : (k : ℕ) (s : List ℕ) → k ≤ length s → ((j : ℕ) → j < k → 0 < get_or s j 0)
+    → length (until_zero s) ≡ k + length (until_zero (drop k s))
 unfolding until_zero
-text_over s i h = ap (λ (x : List ℕ). length (until_zero x)) (drop_of_length-le s {i = i} h)
+text_block zero s h f = omega arith
+text_block (suc k) [] h f = absurd (omega arith)
+text_block (suc k) (b ∷ s) h f =
+    let some : 0 < b = f 0 (omega arith) in
+    let other : eqb b 0 ≡ false = ne_eqb b 0 (λ e. omega arith) in
+    ap (λ (t : Bool). length {A = ℕ} (elim t as (λ _. List ℕ) [ true ↦ [] | false ↦ b ∷ until_zero s ])) other
+    ∙ ap suc (text_block k s (omega arith) (λ j l. f (suc j) (omega arith))) ∙ omega arith
+
+-- where the least byte is not zero none is
+pub least_some : (m : ℕ) (s : List ℕ) (x : ℕ) → x ≡ fold min m s → eqb x 0 ≡ false → (j : ℕ) → j < length s → 0 < get_or s j 0
+least_some m s x e q j h =
+    let n : x ≡ 0 → ⊥ = eqb-false x 0 q in
+    let l : x ≤ get_or s j 0 = (below m s x e).1 j h in omega arith
+  where
+    below : (m : ℕ) (s : List ℕ) (x : ℕ) → x ≡ fold min m s → (x ≤ m) × ((j : ℕ) → j < length s → x ≤ get_or s j 0)
+    below m [] x e = (omega (arith, e), λ j h. absurd (omega arith))
+    below m (b ∷ s) x e = let (l, r) = below (min m b) s x e in (omega (arith, l), λ j h. at j h l r)
+      where
+        at : (j : ℕ) → j < length (b ∷ s) → x ≤ min m b → ((k : ℕ) → k < length s → x ≤ get_or s k 0) → x ≤ get_or (b ∷ s) j 0
+        at zero h l r = omega arith
+        at (suc k) h l r = r k (omega arith)
 
 -- ---- nothing but zeros
 
--- one byte more
-zeros_cons : (s : List ℕ) (i : ℕ) → i < length s → only_zeros (drop i s) ≡ (eqb (get_or s i 0) 0 && only_zeros (drop (i + 1) s))
+-- where the greatest byte is zero, and nowhere else
+pub greatest_none : (m : ℕ) (s : List ℕ) → eqb (fold max m s) 0 ≡ (eqb m 0 && only_zeros s)
 unfolding only_zeros
-zeros_cons s i h = ap only_zeros (drop-cons s i 0 h) ∙ ap (λ (j : ℕ). eqb (get_or s i 0) 0 && only_zeros (drop j s)) (sym (add-one i))
-
-module _ (s : List ℕ) (i m : ℕ) (h : i < length s) where
-  -- one that is greater than those before it
-  pub zeros_greater : m < get_or s i 0 → (eqb m 0 && only_zeros (drop i s)) ≡ (eqb (get_or s i 0) 0 && only_zeros (drop (i + 1) s))
-  zeros_greater l =
-      let other : eqb (get_or s i 0) 0 ≡ false = ne_eqb (get_or s i 0) 0 (λ e. omega arith) in
-      ap (λ (t : Bool). eqb m 0 && t) (zeros_cons s i h ∙ ap (λ (t : Bool). t && only_zeros (drop (i + 1) s)) other)
-      ∙ and-false (eqb m 0)
-      ∙ sym (ap (λ (t : Bool). t && only_zeros (drop (i + 1) s)) other)
-
-  -- or is not
-  pub zeros_not_greater : get_or s i 0 ≤ m → (eqb m 0 && only_zeros (drop i s)) ≡ (eqb m 0 && only_zeros (drop (i + 1) s))
-  zeros_not_greater l = by (eqb m 0) refl
-    where
-      by : (t : Bool) → eqb m 0 ≡ t → (t && only_zeros (drop i s)) ≡ (t && only_zeros (drop (i + 1) s))
-      by true e =
-          let none : m ≡ 0 = eqb-true m 0 e in
-          zeros_cons s i h ∙ ap (λ (t : Bool). t && only_zeros (drop (i + 1) s)) (eq-eqb (get_or s i 0) 0 (omega arith))
-      by false e = refl
-
--- to the end
-pub zeros_all : (s : List ℕ) (i m : ℕ) → length s ≤ i → (eqb m 0 && only_zeros (drop i s)) ≡ eqb m 0
-unfolding only_zeros
-zeros_all s i m h = ap (λ (x : List ℕ). eqb m 0 && only_zeros x) (drop_of_length-le s {i = i} h) ∙ and-true (eqb m 0)
+greatest_none m [] = sym (and-true (eqb m 0))
+greatest_none m (b ∷ s) = greatest_none (max m b) s ∙ ap (λ (t : Bool). t && only_zeros s) (both m b) ∙ and_assoc (eqb m 0) (eqb b 0) (only_zeros s)
+  where
+    both : (m b : ℕ) → eqb (max m b) 0 ≡ (eqb m 0 && eqb b 0)
+    both zero zero = refl
+    both zero (suc b) = let e : max 0 (suc b) ≡ suc b = omega arith in ap (λ (n : ℕ). eqb n 0) e
+    both (suc m) b = ne_eqb (max (suc m) b) 0 (λ e. omega arith) ∙ sym (ap (λ (t : Bool). t && eqb b 0) (ne_eqb (suc m) 0 (λ e. omega arith)))
 
 -- a part is no longer than its size
 pub part_most : (m : ℕ) (l : List ℕ) → length (take m l) ≤ m
@@ -351,91 +354,62 @@ module _ (s : List ℕ) (long : 233_472 ≤ length s) (bytes : AllBytes s) where
   unfolding layout texts_laid tables_in log_in
   layout_is =
       let ts : Tables = tables_in s in
-      ap₂ {C = Layout} (λ (b : Bool) (n : ℕ). cond b (Layout.Parts (length ts.roads) (length ts.carts) (length ts.paths) n) Layout.Broken)
+      ap₂ {C = Option Layout} (λ (b : Bool) (n : ℕ). cond b (Some (record { roads = length ts.roads; carts = length ts.carts; paths = length ts.paths; reports = n })) None)
       (sym nothing_else_is) (sym (entries_count carts_in_log (drop 200_704 s)))
 
   -- as the code finds it, part by part
   pub layout_found : (carts paths log times : List ℕ) → carts ≡ take 65_536 (drop 65_536 s) → paths ≡ take 65_536 (drop 131_072 s)
       → log ≡ take 4096 (drop 196_608 s) → times ≡ take (length s) (drop 200_704 s)
-      → (x : Layout) → x ≡ texts_laid (take 65_536 s) carts paths log times → x ≡ layout s
+      → (x : Option Layout) → x ≡ texts_laid (take 65_536 s) carts paths log times → x ≡ layout s
   layout_found carts paths log times ec ep el et x e =
-      e ∙ ap₂ {C = Layout} (λ (l m : List ℕ). texts_laid (take 65_536 s) l m log times) ec ep
-      ∙ ap₂ {C = Layout} (texts_laid (take 65_536 s) (take 65_536 (drop 65_536 s)) (take 65_536 (drop 131_072 s))) el (et ∙ rest_of s 200_704) ∙ layout_is
+      e ∙ ap₂ {C = Option Layout} (λ (l m : List ℕ). texts_laid (take 65_536 s) l m log times) ec ep
+      ∙ ap₂ {C = Option Layout} (texts_laid (take 65_536 s) (take 65_536 (drop 65_536 s)) (take 65_536 (drop 131_072 s))) el (et ∙ rest_of s 200_704) ∙ layout_is
 
 -- ---- what the code finds of the texts
 
--- one of five tests fails
-fails_2 : (a b c d e : Bool) → b ≡ false → (a && (b && (c && (d && e)))) ≡ false
-fails_2 a b c d e h = ap (λ (x : Bool). a && (x && (c && (d && e)))) h ∙ and-false a
+-- one, and whether zeros follow it
+pub text_found : (x : List ℕ) (n : ℕ) (b : Bool) → n ≡ length (until_zero x) → b ≡ only_zeros (drop n x) → then_some b n ≡ text_laid x
+unfolding text_laid zeros_follow
+text_found x n b e q =
+    let same : b ≡ only_zeros (drop (length (until_zero x)) x) = q ∙ ap (λ (j : ℕ). only_zeros (drop j x)) e in
+    by b ∙ ap₂ {C = Option ℕ} (λ (t : Bool) (m : ℕ). cond t (Some m) None) same e
+  where
+    by : (t : Bool) → then_some t n ≡ cond t (Some n) None
+    by true = refl
+    by false = refl
 
-fails_3 : (a b c d e : Bool) → c ≡ false → (a && (b && (c && (d && e)))) ≡ false
-fails_3 a b c d e h = ap (λ (x : Bool). a && (b && (x && (d && e)))) h ∙ ap (λ (x : Bool). a && x) (and-false b) ∙ and-false a
+-- they do not
+pub text_broken : (x : List ℕ) → None ≡ text_laid x → zeros_follow x ≡ false
+unfolding text_laid
+text_broken x e = by (zeros_follow x) refl e
+  where
+    by : (t : Bool) → zeros_follow x ≡ t → None ≡ cond t (Some (length (until_zero x))) None → zeros_follow x ≡ false
+    by true k z = absurd (none-ne-some _ z)
+    by false k z = k
 
-fails_4 : (a b c d e : Bool) → d ≡ false → (a && (b && (c && (d && e)))) ≡ false
-fails_4 a b c d e h = ap (λ (x : Bool). a && (b && x)) (ap (λ (x : Bool). c && (x && e)) h ∙ and-false c) ∙ fails_3 a b false d e refl
+-- they do
+pub text_ended : (x : List ℕ) (n : ℕ) → Some n ≡ text_laid x → (zeros_follow x ≡ true) × (length (until_zero x) ≡ n)
+unfolding text_laid
+text_ended x n e = by (zeros_follow x) refl e
+  where
+    by : (t : Bool) → zeros_follow x ≡ t → Some n ≡ cond t (Some (length (until_zero x))) None → (zeros_follow x ≡ true) × (length (until_zero x) ≡ n)
+    by true k z = (k, some-injective _ _ (sym z))
+    by false k z = absurd (none-ne-some _ (sym z))
 
-fails_5 : (a b c d e : Bool) → e ≡ false → (a && (b && (c && (d && e)))) ≡ false
-fails_5 a b c d e h = ap (λ (x : Bool). a && (b && (c && x))) (ap (λ (x : Bool). d && x) h ∙ and-false d) ∙ fails_4 a b c false e refl
-
--- the test of one part, as the code asks it
-told : (i : ℕ) (x : List ℕ) (b : Bool) → i ≡ length (until_zero x) → b ≡ only_zeros (drop i x) → b ≡ zeros_follow x
-unfolding zeros_follow
-told i x b e q = q ∙ ap (λ (j : ℕ). only_zeros (drop j x)) e
-
-module _ (roads carts paths log times : List ℕ) (r c p n : ℕ)
-    (er : r ≡ length (until_zero roads)) (ec : c ≡ length (until_zero carts)) (ep : p ≡ length (until_zero paths)) (en : n ≡ length (until_zero log)) where
-  -- the five tests
-  abbrev all_five : Bool
-  all_five = zeros_follow roads && (zeros_follow carts && (zeros_follow paths && (zeros_follow log && only_zeros (drop (8 * length (until_zero log)) times))))
-
-  -- the fifth of them, as the code asks it
-  times_told : (b : Bool) → b ≡ only_zeros (drop (8 * n) times) → b ≡ only_zeros (drop (8 * length (until_zero log)) times)
-  times_told b q = q ∙ ap (λ (i : ℕ). only_zeros (drop (8 * i) times)) en
-
-  -- one fails
-  broken_by : all_five ≡ false → Layout.Broken ≡ texts_laid roads carts paths log times
-  unfolding texts_laid
-  broken_by e =
-      sym (ap (λ (b : Bool). cond b (Layout.Parts (length (until_zero roads)) (length (until_zero carts)) (length (until_zero paths)) (length (until_zero log))) Layout.Broken) e)
-
-  -- that of the roads
-  pub roads_broken : (b : Bool) → b ≡ only_zeros (drop r roads) → not b ≡ true → Layout.Broken ≡ texts_laid roads carts paths log times
-  roads_broken b q e =
-      broken_by (ap (λ (x : Bool). x && (zeros_follow carts && (zeros_follow paths && (zeros_follow log && only_zeros (drop (8 * length (until_zero log)) times)))))
-      (sym (told r roads b er q) ∙ not-true b e))
-
-  -- of the carts
-  pub carts_broken : (b : Bool) → b ≡ only_zeros (drop c carts) → not b ≡ true → Layout.Broken ≡ texts_laid roads carts paths log times
-  carts_broken b q e = broken_by (fails_2 (zeros_follow roads) (zeros_follow carts) (zeros_follow paths) (zeros_follow log) (only_zeros (drop (8 * length (until_zero log)) times)) (sym (told c carts b ec q) ∙ not-true b e))
-
-  -- of the paths
-  pub paths_broken : (b : Bool) → b ≡ only_zeros (drop p paths) → not b ≡ true → Layout.Broken ≡ texts_laid roads carts paths log times
-  paths_broken b q e = broken_by (fails_3 (zeros_follow roads) (zeros_follow carts) (zeros_follow paths) (zeros_follow log) (only_zeros (drop (8 * length (until_zero log)) times)) (sym (told p paths b ep q) ∙ not-true b e))
-
-  -- of the log
-  pub log_broken : (b : Bool) → b ≡ only_zeros (drop n log) → not b ≡ true → Layout.Broken ≡ texts_laid roads carts paths log times
-  log_broken b q e = broken_by (fails_4 (zeros_follow roads) (zeros_follow carts) (zeros_follow paths) (zeros_follow log) (only_zeros (drop (8 * length (until_zero log)) times)) (sym (told n log b en q) ∙ not-true b e))
-
-  -- of its times
-  pub times_broken : (b : Bool) → b ≡ only_zeros (drop (8 * n) times) → not b ≡ true → Layout.Broken ≡ texts_laid roads carts paths log times
-  times_broken b q e =
-      broken_by (fails_5 (zeros_follow roads) (zeros_follow carts) (zeros_follow paths) (zeros_follow log) (only_zeros (drop (8 * length (until_zero log)) times))
-      (sym (times_told b q) ∙ not-true b e))
-
-  -- none
-  pub none_broken : (b1 b2 b3 b4 b5 : Bool) → b1 ≡ only_zeros (drop r roads) → b2 ≡ only_zeros (drop c carts) → b3 ≡ only_zeros (drop p paths)
-      → b4 ≡ only_zeros (drop n log) → b5 ≡ only_zeros (drop (8 * n) times)
-      → not b1 ≡ false → not b2 ≡ false → not b3 ≡ false → not b4 ≡ false → not b5 ≡ false
-      → Layout.Parts r c p n ≡ texts_laid roads carts paths log times
-  unfolding texts_laid
-  none_broken b1 b2 b3 b4 b5 q1 q2 q3 q4 q5 e1 e2 e3 e4 e5 =
-      let found : Layout = Layout.Parts (length (until_zero roads)) (length (until_zero carts)) (length (until_zero paths)) (length (until_zero log)) in
-      ap (λ (x : ℕ). Layout.Parts x c p n) er ∙ ap (λ (x : ℕ). Layout.Parts (length (until_zero roads)) x p n) ec
-      ∙ ap (λ (x : ℕ). Layout.Parts (length (until_zero roads)) (length (until_zero carts)) x n) ep
-      ∙ ap (Layout.Parts (length (until_zero roads)) (length (until_zero carts)) (length (until_zero paths))) en
-      ∙ ap (λ (b : Bool). cond b found Layout.Broken) (sym (
-      ap (λ (x : Bool). x && (zeros_follow carts && (zeros_follow paths && (zeros_follow log && only_zeros (drop (8 * length (until_zero log)) times))))) (sym (told r roads b1 er q1) ∙ not-false b1 e1)
-      ∙ ap (λ (x : Bool). x && (zeros_follow paths && (zeros_follow log && only_zeros (drop (8 * length (until_zero log)) times)))) (sym (told c carts b2 ec q2) ∙ not-false b2 e2)
-      ∙ ap (λ (x : Bool). x && (zeros_follow log && only_zeros (drop (8 * length (until_zero log)) times))) (sym (told p paths b3 ep q3) ∙ not-false b3 e3)
-      ∙ ap (λ (x : Bool). x && only_zeros (drop (8 * length (until_zero log)) times)) (sym (told n log b4 en q4) ∙ not-false b4 e4)
-      ∙ sym (times_told b5 q5) ∙ not-false b5 e5))
+-- they follow all four, and the times or not
+pub texts_found : (roads carts paths log times : List ℕ) (r c p n : ℕ)
+    → Some r ≡ text_laid roads → Some c ≡ text_laid carts → Some p ≡ text_laid paths → Some n ≡ text_laid log
+    → (b : Bool) → b ≡ only_zeros (drop (8 * n) times)
+    → then_some {T = Layout} b (record { roads = r; carts = c; paths = p; reports = n }) ≡ texts_laid roads carts paths log times
+unfolding texts_laid
+texts_found roads carts paths log times r c p n er ec ep en b q =
+    let (zr, lr) = text_ended roads r er in
+    let (zc, lc) = text_ended carts c ec in
+    let (zp, lp) = text_ended paths p ep in
+    let (zn, ln) = text_ended log n en in
+    let e : b ≡ only_zeros (drop (8 * length (until_zero log)) times) = q ∙ ap (λ (i : ℕ). only_zeros (drop (8 * i) times)) (sym ln) in
+    rw (zr, zc, zp, zn, ← e, lr, lc, lp, ln) (by b)
+  where
+    by : (t : Bool) → then_some {T = Layout} t (record { roads = r; carts = c; paths = p; reports = n }) ≡ cond t (Some (record { roads = r; carts = c; paths = p; reports = n })) None
+    by true = refl
+    by false = refl

@@ -1,13 +1,14 @@
 -- A plan slice holds the tables and the log that were written to it, and a slice that holds a plan is one that was so written. Assumes nothing.
+use Rattle.std.specs.Prelude.{Option, None, Some, Err, Ok}
 use Prim.Native.Nat.{ℕ, zero, suc, ◌+◌, ◌-◌, ◌^◌, ◌≤◌, ◌<◌}
 use native.Mathlib.Omega.{arith}
 use mathlib.Core.Path.{◌≡◌, refl, ap, ap₂, sym, ◌∙◌, subst}
 use mathlib.Core.Bool.{Bool, true, false}
 use mathlib.Core.List.{List, [], ◌∷◌, ◌++◌, map, append_assoc, Memᴰ}
-use mathlib.Core.Option.{Option, none, some, none-ne-some, some-injective}
 use lib.Dec.{T, eqb, eqb→eq}
 use lib.ListN.{length, take, drop, replicate, length-append, length-replicate, length-map}
 use lib.Seq.{take_at, drop_at, drop-drop}
+use Rattle.laws.proofs.Options.{none-ne-some, some-injective}
 use Rattle.laws.proofs.Tests.{passes}
 use Rattle.words.specs.Words.{little, word, words, padded}
 use Rattle.words.proofs.Padding.{padded_length}
@@ -15,7 +16,7 @@ use Rattle.words.proofs.Reading.{word_length, words_length, little_word}
 use Rattle.rfc4180.specs.Text.{same}
 use Rattle.rfc4180.proofs.Text.{same_equal, same_self}
 use Rattle.rfc4180.proofs.Bytes.{NoZero}
-use Rattle.floor.specs.Refusal.{Judged, refused, accepted}
+use Rattle.floor.specs.Refusal.{Judged}
 use Rattle.floor.specs.Plan.{Plan}
 use Rattle.floor.specs.Tables.{Tables}
 use Rattle.floor.proofs.Bytes.{accepted_bytes}
@@ -286,18 +287,18 @@ nothing_else_in n ts log e =
 
 -- what is held where the tables are accepted, the log is replayed and there is nothing else
 pub held_where : (s : List ℕ) (ts : Tables) (log : List Report) (p : Plan) (b : Book)
-    → replay p (first_book p) log ≡ some b → nothing_else s ts log ≡ true
-    → held_by s ts log (accepted p) ≡ some (record { tables = ts; log = log; plan = p; book = b })
+    → replay p (first_book p) log ≡ Some b → nothing_else s ts log ≡ true
+    → held_by s ts log (Ok p) ≡ Some (record { tables = ts; log = log; plan = p; book = b })
 unfolding held_by
 held_where s ts log p b e f =
     let found : Book → Held = λ x. record { tables = ts; log = log; plan = p; book = x } in
-    ap (λ (o : Option Book). elim o [ none ↦ none | some x ↦ elim (nothing_else s ts log) [ true ↦ some (found x) | false ↦ none ] ]) e
-    ∙ ap (λ (t : Bool). elim t [ true ↦ some (found b) | false ↦ none ]) f
+    ap (λ (o : Option Book). elim o [ None ↦ None | Some x ↦ elim (nothing_else s ts log) [ true ↦ Some (found x) | false ↦ None ] ]) e
+    ∙ ap (λ (t : Bool). elim t [ true ↦ Some (found b) | false ↦ None ]) f
 
 -- a plan slice of accepted tables that fit and a log that fits and is replayed holds these
 pub held_slice_fits : (n : ℕ) (ts : Tables) (p : Plan) (log : List Report) (b : Book) → plan_need ≤ n → TablesFit ts → LogFits log
-    → judge ts ≡ accepted p → replay p (first_book p) log ≡ some b
-    → held (plan_slice n ts log) ≡ some (record { tables = ts; log = log; plan = p; book = b })
+    → judge ts ≡ Ok p → replay p (first_book p) log ≡ Some b
+    → held (plan_slice n ts log) ≡ Some (record { tables = ts; log = log; plan = p; book = b })
 unfolding held
 held_slice_fits n ts p log b h tf lf ej er =
     let s : List ℕ = plan_slice n ts log in
@@ -306,7 +307,7 @@ held_slice_fits n ts p log b h tf lf ej er =
     ∙ held_where s ts log p b er (nothing_else_in n ts log (plan_slice_length n ts log tf lf h))
 
 -- a slice holds accepted tables as they are
-pub judged_fit : (ts : Tables) (p : Plan) → judge ts ≡ accepted p → TablesFit ts
+pub judged_fit : (ts : Tables) (p : Plan) → judge ts ≡ Ok p → TablesFit ts
 judged_fit ts p e =
     let (roads, carts, paths) = accepted_bytes ts p (judged ts p e).0 in
     record {
@@ -319,7 +320,7 @@ judged_fit ts p e =
     }
 
 -- and a log that is replayed
-pub replayed_fits : (ts : Tables) (p : Plan) (log : List Report) (b : Book) → judge ts ≡ accepted p → replay p (first_book p) log ≡ some b → LogFits log
+pub replayed_fits : (ts : Tables) (p : Plan) (log : List Report) (b : Book) → judge ts ≡ Ok p → replay p (first_book p) log ≡ Some b → LogFits log
 replayed_fits ts p log b ej er =
     let says : (r : Report) → Memᴰ r log → (1 ≤ r.cart) × (r.cart ≤ length p.carts) × (r.time ≤ 1_000_000_000_000) =
     log_carts_times p (first_book p) b log er
@@ -331,19 +332,19 @@ replayed_fits ts p log b ej er =
     }
 
 -- what a load leaves, with reports since, holds the tables and the log written, their plan and its book
-pub held_slice : (n : ℕ) (ts : Tables) (p : Plan) (log : List Report) (b : Book) → plan_need ≤ n → judge ts ≡ accepted p
-    → replay p (first_book p) log ≡ some b → held (plan_slice n ts log) ≡ some (record { tables = ts; log = log; plan = p; book = b })
+pub held_slice : (n : ℕ) (ts : Tables) (p : Plan) (log : List Report) (b : Book) → plan_need ≤ n → judge ts ≡ Ok p
+    → replay p (first_book p) log ≡ Some b → held (plan_slice n ts log) ≡ Some (record { tables = ts; log = log; plan = p; book = b })
 held_slice n ts p log b h ej er = held_slice_fits n ts p log b h (judged_fit ts p ej) (replayed_fits ts p log b ej er) ej er
 
 -- and has as many places as the slice lent
-pub slice_length : (n : ℕ) (ts : Tables) (p : Plan) (log : List Report) (b : Book) → plan_need ≤ n → judge ts ≡ accepted p
-    → replay p (first_book p) log ≡ some b → length (plan_slice n ts log) ≡ n
+pub slice_length : (n : ℕ) (ts : Tables) (p : Plan) (log : List Report) (b : Book) → plan_need ≤ n → judge ts ≡ Ok p
+    → replay p (first_book p) log ≡ Some b → length (plan_slice n ts log) ≡ n
 slice_length n ts p log b h ej er = plan_slice_length n ts log (judged_fit ts p ej) (replayed_fits ts p log b ej er) h
 
 -- the slice has the need, the tables are accepted, the log is replayed, and the slice is what these are written as
 abbrev pub Says : List ℕ → Held → Type 0
 Says s h =
-    (plan_need ≤ length s) × (judge h.tables ≡ accepted h.plan) × (replay h.plan (first_book h.plan) h.log ≡ some h.book)
+    (plan_need ≤ length s) × (judge h.tables ≡ Ok h.plan) × (replay h.plan (first_book h.plan) h.log ≡ Some h.book)
     × (s ≡ plan_slice (length s) h.tables h.log)
 
 -- a slice equal to some plan slice is no shorter than the need
@@ -351,13 +352,13 @@ long_by : (s : List ℕ) (n : ℕ) (ts : Tables) (log : List Report) → s ≡ p
 long_by s n ts log e = subst (λ (x : List ℕ). plan_need ≤ length x) (sym e) (slice_at_least n ts log)
 
 -- so it is where tables and a log, judged and replayed, are all there is: by cases of the three tests
-held_by_says : (s : List ℕ) (ts : Tables) (log : List Report) (j : Judged Plan) (h : Held) → judge ts ≡ j → held_by s ts log j ≡ some h → Says s h
+held_by_says : (s : List ℕ) (ts : Tables) (log : List Report) (j : Judged Plan) (h : Held) → judge ts ≡ j → held_by s ts log j ≡ Some h → Says s h
 unfolding held_by nothing_else
-held_by_says s ts log (refused r) h ej e = absurd (none-ne-some _ e)
-held_by_says s ts log (accepted p) h ej e = by (replay p (first_book p) log) refl e
+held_by_says s ts log (Err r) h ej e = absurd (none-ne-some _ e)
+held_by_says s ts log (Ok p) h ej e = by (replay p (first_book p) log) refl e
   where
-    whole : (b : Book) → replay p (first_book p) log ≡ some b → (t : Bool) → nothing_else s ts log ≡ t
-        → elim t [ true ↦ some (record { tables = ts; log = log; plan = p; book = b }) | false ↦ none ] ≡ some h → Says s h
+    whole : (b : Book) → replay p (first_book p) log ≡ Some b → (t : Bool) → nothing_else s ts log ≡ t
+        → elim t [ true ↦ Some (record { tables = ts; log = log; plan = p; book = b }) | false ↦ None ] ≡ Some h → Says s h
     whole b er true en e =
         let w : s ≡ plan_slice (length s) ts log = sym (same_equal (plan_slice (length s) ts log) s (subst T (sym en) tt)) in
         subst (Says s) (some-injective _ _ e) (long_by s (length s) ts log w, ej, er, w)
@@ -365,14 +366,14 @@ held_by_says s ts log (accepted p) h ej e = by (replay p (first_book p) log) ref
 
     by : (o : Option Book) → replay p (first_book p) log ≡ o
         → elim o [
-          | none ↦ none
-          | some b ↦ elim (nothing_else s ts log) [ true ↦ some (record { tables = ts; log = log; plan = p; book = b }) | false ↦ none ]
-        ] ≡ some h
+          | None ↦ None
+          | Some b ↦ elim (nothing_else s ts log) [ true ↦ Some (record { tables = ts; log = log; plan = p; book = b }) | false ↦ None ]
+        ] ≡ Some h
         → Says s h
-    by none er e = absurd (none-ne-some _ e)
-    by (some b) er e = whole b er (nothing_else s ts log) refl e
+    by None er e = absurd (none-ne-some _ e)
+    by (Some b) er e = whole b er (nothing_else s ts log) refl e
 
 -- that is what a slice that holds a plan says
-pub held_says : (s : List ℕ) (h : Held) → held s ≡ some h → Says s h
+pub held_says : (s : List ℕ) (h : Held) → held s ≡ Some h → Says s h
 unfolding held
 held_says s h e = held_by_says s (tables_in s) (log_in s) (judge (tables_in s)) h refl e

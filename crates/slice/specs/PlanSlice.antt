@@ -1,10 +1,9 @@
 -- The plan slice: the tables as handed in, and the log of accepted reports (docs/DECISIONS.md, "The plan slice").
 -- Assumes nothing.
-use Rattle.std.specs.Prelude.{ℕ, ◌+◌, ◌*◌, Bool, true, false, List, [], ◌∷◌, ◌++◌, map, eqb, length, take, drop}
-use Rattle.std.proofs.Math.Option.{Option, none, some}
+use Rattle.std.specs.Prelude.{ℕ, ◌+◌, ◌*◌, Bool, true, false, List, [], ◌∷◌, ◌++◌, map, eqb, length, take, drop, Option, None, Some, Err, Ok}
 use Rattle.words.specs.Words.{words, padded}
 use Rattle.rfc4180.specs.Text.{same}
-use Rattle.floor.specs.Refusal.{Judged, refused, accepted}
+use Rattle.floor.specs.Refusal.{Judged}
 use Rattle.floor.specs.Plan.{Plan}
 use Rattle.floor.specs.Tables.{Tables}
 use Rattle.network.specs.Judge.{judge}
@@ -57,11 +56,11 @@ nothing_else s ts log = same (plan_slice (length s) ts log) s
 
 -- what the slice s holds, if the tables and the log in it are these and the tables are judged so
 unfoldable pub held_by : List ℕ → Tables → List Report → Judged Plan → Option Held
-held_by s ts log (refused r) = none
-held_by s ts log (accepted p) =
+held_by s ts log (Err r) = None
+held_by s ts log (Ok p) =
     elim (replay p (first_book p) log) [
-      | none ↦ none
-      | some b ↦ elim (nothing_else s ts log) [ true ↦ some (record { tables = ts; log = log; plan = p; book = b }) | false ↦ none ]
+      | None ↦ None
+      | Some b ↦ elim (nothing_else s ts log) [ true ↦ Some (record { tables = ts; log = log; plan = p; book = b }) | false ↦ None ]
     ]
 
 -- the plan that a slice holds, if it holds what an accepted load, with accepted reports since, leaves: the tables in it are accepted, so is each

@@ -3,43 +3,81 @@
 
 mod parts;
 
-ghost use Rattle.std.specs.Prelude.{◌≡◌, true, ◌&&◌, ◌≤◌, length, take, drop};
-ghost use Rattle.std.proofs.Math.Option.{some};
+ghost use Rattle.std.specs.Prelude.{◌≡◌, true, None, Some, ◌≤◌, ◌<◌, length, take, drop};
 ghost use Rattle.tables.specs.Index.{IndexLeft};
-ghost use Rattle.tables.specs.Reading.{numbers_of, read_into, roads_read};
-ghost use Rattle.limits.specs.Limits.{paths_within};
-ghost use Rattle.book.specs.Log.{log_book, is_book};
+ghost use Rattle.tables.specs.Lending.{tables_of, arrays_of, SameArrays};
+ghost use Rattle.tables.specs.Reading.{room, numbers_of};
 ghost use Rattle.floor.specs.Plan.{Plan};
-ghost use Rattle.slice.specs.PlanSlice.{tables_in, log_in, nothing_else};
-ghost use Rattle.slice.specs.Holding.{laid, laying, laid_into, roads_held, IndexHeld, plan_into};
+ghost use Rattle.slice.specs.declared.TheConstants.{PLAN_BYTES};
+ghost use Rattle.slice.specs.PlanSlice.{log_in};
+ghost use Rattle.slice.specs.Holding.{layout as layout_of, laid, laying, laid_into, read_slice, roads_held, IndexHeld};
+ghost use Rattle.slice.specs.Texts.{texts_in};
+ghost use Rattle.slice.specs.HeldPlan.{log_kept};
 ghost use Rattle.slice.specs.Entry.{with_entry};
 ghost use Rattle.schedule.specs.Book.{◌at◌};
 
-use tables::Reading;
+use book::Log;
+use tables::{PlanArrays, RoadIndex, Size, Tables};
 
-// What is said of a plan slice: how many roads, carts, steps and reports the plan that it holds has.
-#[derive(Drop)]
-pub enum Holding {
+// How many bytes a table may have, and how many reports a log.
+pub const TABLE_BYTES: usize = 65_536;
+
+pub const MOST_REPORTS: usize = 4096;
+
+// Where the parts of a slice stand, behind the table of roads: the other two.
+pub const CARTS_AT: usize = TABLE_BYTES;
+
+pub const PATHS_AT: usize = 2 * TABLE_BYTES;
+
+// The log's carts, a byte each, and its times, eight bytes each.
+pub const LOG_AT: usize = 3 * TABLE_BYTES;
+
+pub const TIMES_AT: usize = LOG_AT + MOST_REPORTS;
+
+// How long they are in all.
+pub const PLAN_BYTES: usize = TIMES_AT + 8 * MOST_REPORTS;
+
+// A slice that is long enough for a plan and its log.
+#[derive(Clone, Copy)]
+pub struct PlanSlice<'a> {
+    pub bytes: &'a [u8],
+    ghost long: { PLAN_BYTES ≤ length bytes.now },
+}
+
+impl<'a> PlanSlice<'a> {
+    // These bytes, where there are enough of them.
+    pub fn new(bytes: &'a [u8]) -> Option<PlanSlice<'a>>
+        ensures there { (plan : PlanSlice) → result ≡ Some plan → plan.bytes.now ≡ bytes.now }
+        ensures short { result ≡ None → length bytes.now < PLAN_BYTES }
+    {
+        if bytes.len() < PLAN_BYTES {
+            return None;
+        }
+        Some(PlanSlice { bytes })
+    }
+}
+
+// The size of the plan that a slice holds, and how many reports its log has.
+#[derive(Clone, Copy)]
+pub struct Holding {
+    pub size: Size,
+    pub reports: usize,
+}
+
+// Why no plan is read: the slice or an array is too short, or the slice holds none.
+#[derive(Clone, Copy, Debug, PartialEq, Eq)]
+pub enum HoldError {
     TooShort,
     NoPlan,
-    Held {
-        roads: usize,
-        carts: usize,
-        steps: usize,
-        reports: usize,
-    },
 }
 
 // How a slice is laid out: the lengths of its tables, and how many reports its log has.
-#[derive(Drop)]
-enum Layout {
-    Broken,
-    Parts {
-        roads: usize,
-        carts: usize,
-        paths: usize,
-        reports: usize,
-    },
+#[derive(Clone, Copy)]
+struct Layout {
+    roads: usize,
+    carts: usize,
+    paths: usize,
+    reports: usize,
 }
 
 // The part of a slice of this size from this place on, or as much of it as there is.
@@ -55,221 +93,147 @@ pub fn part(s: &[u8], from: usize, size: usize) -> &[u8]
     &s[from..from + size]
 }
 
-// Writes a report as the n-th entry of a slice's log, where there is room for one: its cart, one byte, and its time, eight bytes. The times
-// begin at the 25,088th number of eight bytes.
+// Writes a report as the n-th entry of a slice's log, where there is room for one: its cart, one byte, and its time, eight bytes.
 pub fn put_entry(plan: &mut [u8], n: usize, cart: u8, time: u64)
     ensures { plan.new ≡ with_entry plan.old n (cart at time) }
 {
-    if plan.len() < 233_472 {
+    if plan.len() < PLAN_BYTES {
         return;
     }
-    if 4096 <= n {
+    if MOST_REPORTS <= n {
         return;
     }
-    plan[196_608 + n] = cart;
-    words::put64(plan, 25_088 + n, time);
+    plan[LOG_AT + n] = cart;
+    words::put::<8>(plan, TIMES_AT / 8 + n, time);
 }
 
-// Whether paths in an array keep the limits and the n reports of a slice's log are accepted in their turn.
-fn accepts_log(plan: &[u8], n: usize, cells: &[u32], carts: usize, steps: usize) -> bool
-    requires { (233472 ≤ length plan.now) × (n ≤ 4096) }
-    ensures { result ≡ (paths_within carts steps cells.now && is_book (log_book carts steps cells.now (take n (drop 196608 plan.now)) (drop 200704 plan.now))) }
+// The log of n reports in a slice, or as much of it as there is.
+pub fn log(plan: &[u8], n: usize) -> Log<'_>
+    ensures carts { result.carts.now ≡ take n (drop LOG_AT plan.now) }
+    ensures times { result.times.now ≡ drop TIMES_AT plan.now }
 {
-    if !limits::within_limits(cells, carts, steps) {
-        return false;
+    Log {
+        carts: part(plan, LOG_AT, n),
+        times: part(plan, TIMES_AT, plan.len()),
     }
-    let log = part(plan, 196_608, n);
-    let times = part(plan, 200_704, plan.len());
-    book::accepts(cells, carts, steps, log, times)
 }
 
-// Reads the tables of a slice, of r, c and p bytes, and the index of its roads.
-fn read_texts(
-    plan: &[u8],
-    r: usize,
-    c: usize,
-    p: usize,
-    edges: &mut [u32],
-    speeds: &mut [u32],
-    cells: &mut [u32],
-    heads: &mut [u16],
-    nexts: &mut [u16],
-) -> Reading
-    requires { (233472 ≤ length plan.now) × (r ≤ 65536) × (c ≤ 65536) × (p ≤ 65536) }
-    ensures answer { result ≡ (read_into (take r plan.now) (take c (drop 65536 plan.now)) (take p (drop 131072 plan.now)) edges.old speeds.old cells.old).answer }
-    ensures edges { edges.new ≡ (read_into (take r plan.now) (take c (drop 65536 plan.now)) (take p (drop 131072 plan.now)) edges.old speeds.old cells.old).arrays.roads }
-    ensures speeds { speeds.new ≡ (read_into (take r plan.now) (take c (drop 65536 plan.now)) (take p (drop 131072 plan.now)) edges.old speeds.old cells.old).arrays.carts }
-    ensures cells { cells.new ≡ (read_into (take r plan.now) (take c (drop 65536 plan.now)) (take p (drop 131072 plan.now)) edges.old speeds.old cells.old).arrays.cells }
-    ensures index { IndexLeft (roads_read result) edges.new heads.old nexts.old heads.new nexts.new }
+// Whether the paths in arrays keep the limits and the reports of a slice's log are accepted in their turn.
+fn accepts_log(plan: &[u8], read: Holding, arrays: &PlanArrays) -> bool
+    ensures { result ≡ log_kept plan.now read (arrays_of arrays.now) }
 {
-    let carts = part(plan, 65_536, c);
-    let paths = part(plan, 131_072, p);
-    tables::read_indexed(&plan[..r], carts, paths, edges, speeds, cells, heads, nexts)
+    let paths = read.size.paths(arrays.cells);
+    limits::within_limits(paths) && book::accepts(paths, log(plan, read.reports))
+}
+
+// The tables of a slice that is laid out so.
+fn texts(plan: &[u8], layout: Layout) -> Tables<'_>
+    requires { layout.roads ≤ length plan.now }
+    ensures { tables_of result ≡ texts_in layout plan.now }
+{
+    Tables {
+        roads: &plan[..layout.roads],
+        carts: part(plan, CARTS_AT, layout.carts),
+        paths: part(plan, PATHS_AT, layout.paths),
+    }
 }
 
 // Reads the plan of a slice that is laid out so: what its tables say, with the numbers in the arrays.
 fn read_parts(
-    plan: &[u8],
-    r: usize,
-    c: usize,
-    p: usize,
-    n: usize,
-    edges: &mut [u32],
-    speeds: &mut [u32],
-    cells: &mut [u32],
-    heads: &mut [u16],
-    nexts: &mut [u16],
-) -> Holding
-    requires in_bounds { (233472 ≤ length plan.now) × (nothing_else plan.now (tables_in plan.now) (log_in plan.now) ≡ true) }
-    requires r_value { (r ≡ length (tables_in plan.now).roads) × (c ≡ length (tables_in plan.now).carts) × (p ≡ length (tables_in plan.now).paths) × (n ≡ length (log_in plan.now)) }
-    requires in_bounds_2 { (4096 ≤ length edges.old) × (128 ≤ length speeds.old) × (8192 ≤ length cells.old) }
-    ensures answer { result ≡ laying (length (log_in plan.now)) (laid plan.now) }
-    ensures left { (q : Plan) → laid plan.now ≡ some q → numbers_of (record { roads = edges.old; carts = speeds.old; cells = cells.old }) q ≡ record { roads = edges.new; carts = speeds.new; cells = cells.new } }
-    ensures index { IndexHeld result edges.new heads.old nexts.old heads.new nexts.new }
+    plan: PlanSlice,
+    layout: Layout,
+    arrays: &mut PlanArrays,
+    index: &mut RoadIndex,
+) -> Result<Holding, HoldError>
+    requires layout_is { Some layout ≡ layout_of plan.bytes.now }
+    requires room { room (arrays_of arrays.old) ≡ true }
+    ensures answer { result ≡ laying (length (log_in plan.entry.bytes.now)) (laid plan.entry.bytes.now) }
+    ensures left { (q : Plan) → laid plan.entry.bytes.now ≡ Some q → arrays_of arrays.new ≡ numbers_of (arrays_of arrays.old) q }
+    ensures same { SameArrays arrays.old arrays.new }
+    ensures index { IndexHeld result arrays.new.edges.now index.old index.new }
 {
-    let x = read_texts(plan, r, c, p, edges, speeds, cells, heads, nexts);
-    match x {
-        Reading::Refused(_) => Holding::NoPlan,
-        Reading::TooShort => Holding::NoPlan,
-        Reading::Read {
-            roads: i,
-            carts: j,
-            steps: w,
-        } => Holding::Held {
-            roads: i,
-            carts: j,
-            steps: w,
-            reports: n,
-        },
+    match tables::read_indexed(texts(plan.bytes, layout), arrays, index) {
+        Ok(size) => Ok(Holding {
+            size,
+            reports: layout.reports,
+        }),
+        Err(_) => Err(HoldError::NoPlan),
     }
 }
 
 // Reads the plan of a slice, if its tables give one and there is nothing else, into arrays that have room.
 fn read_found(
-    plan: &[u8],
-    edges: &mut [u32],
-    speeds: &mut [u32],
-    cells: &mut [u32],
-    heads: &mut [u16],
-    nexts: &mut [u16],
-) -> Holding
-    requires { (233472 ≤ length plan.now) × (4096 ≤ length edges.old) × (128 ≤ length speeds.old) × (8192 ≤ length cells.old) }
-    ensures answer { result ≡ laying (length (log_in plan.now)) (laid plan.now) }
-    ensures left { (q : Plan) → laid plan.now ≡ some q → numbers_of (record { roads = edges.old; carts = speeds.old; cells = cells.old }) q ≡ record { roads = edges.new; carts = speeds.new; cells = cells.new } }
-    ensures index { IndexHeld result edges.new heads.old nexts.old heads.new nexts.new }
+    plan: PlanSlice,
+    arrays: &mut PlanArrays,
+    index: &mut RoadIndex,
+) -> Result<Holding, HoldError>
+    requires room { room (arrays_of arrays.old) ≡ true }
+    ensures answer { result ≡ laying (length (log_in plan.entry.bytes.now)) (laid plan.entry.bytes.now) }
+    ensures left { (q : Plan) → laid plan.entry.bytes.now ≡ Some q → arrays_of arrays.new ≡ numbers_of (arrays_of arrays.old) q }
+    ensures same { SameArrays arrays.old arrays.new }
+    ensures index { IndexHeld result arrays.new.edges.now index.old index.new }
 {
-    let x = parts::find_parts(plan);
-    match x {
-        Layout::Broken => Holding::NoPlan,
-        Layout::Parts {
-            roads: r,
-            carts: c,
-            paths: p,
-            reports: n,
-        } => read_parts(plan, r, c, p, n, edges, speeds, cells, heads, nexts),
-    }
+    let layout = parts::find_parts(plan.bytes).ok_or(HoldError::NoPlan)?;
+    read_parts(plan, layout, arrays, index)
 }
 
 // Reads the plan of a slice: its tables are judged again, and there may be nothing else beside a log.
 fn read_room(
     plan: &[u8],
-    edges: &mut [u32],
-    speeds: &mut [u32],
-    cells: &mut [u32],
-    heads: &mut [u16],
-    nexts: &mut [u16],
-) -> Holding
-    ensures answer { result ≡ (laid_into plan.now edges.old speeds.old cells.old).answer }
-    ensures left { edges.new ≡ (laid_into plan.now edges.old speeds.old cells.old).arrays.roads }
-    ensures left_speeds { speeds.new ≡ (laid_into plan.now edges.old speeds.old cells.old).arrays.carts }
-    ensures left_cells { cells.new ≡ (laid_into plan.now edges.old speeds.old cells.old).arrays.cells }
-    ensures index { IndexHeld result edges.new heads.old nexts.old heads.new nexts.new }
+    arrays: &mut PlanArrays,
+    index: &mut RoadIndex,
+) -> Result<Holding, HoldError>
+    ensures answer { result ≡ (laid_into plan.now (arrays_of arrays.old)).answer }
+    ensures left { arrays_of arrays.new ≡ (laid_into plan.now (arrays_of arrays.old)).arrays }
+    ensures same { SameArrays arrays.old arrays.new }
+    ensures index { IndexHeld result arrays.new.edges.now index.old index.new }
 {
-    if plan.len() < 233_472 {
-        return Holding::TooShort;
+    let plan = PlanSlice::new(plan).ok_or(HoldError::TooShort)?;
+    if !arrays.has_room() {
+        return Err(HoldError::TooShort);
     }
-    if edges.len() < 4096 {
-        return Holding::TooShort;
+    let found = read_found(plan, arrays, index);
+    if found.is_err() {
+        arrays.clear();
     }
-    if speeds.len() < 128 {
-        return Holding::TooShort;
-    }
-    if cells.len() < 8192 {
-        return Holding::TooShort;
-    }
-    let x = read_found(plan, edges, speeds, cells, heads, nexts);
-    if let Holding::NoPlan = x {
-        tables::clear_all(edges, speeds, cells);
-    }
-    x
+    found
 }
 
 // Reads the plan of a slice and hands on the index of its roads, where that has room; without a plan it is that of no road. Its last limits, of events and
 // bounds, and the log are left to the caller, who may count by writing.
 pub fn read_laid(
     plan: &[u8],
-    edges: &mut [u32],
-    speeds: &mut [u32],
-    cells: &mut [u32],
-    heads: &mut [u16],
-    nexts: &mut [u16],
-) -> Holding
-    ensures answer { result ≡ (laid_into plan.now edges.old speeds.old cells.old).answer }
-    ensures left { edges.new ≡ (laid_into plan.now edges.old speeds.old cells.old).arrays.roads }
-    ensures left_speeds { speeds.new ≡ (laid_into plan.now edges.old speeds.old cells.old).arrays.carts }
-    ensures left_cells { cells.new ≡ (laid_into plan.now edges.old speeds.old cells.old).arrays.cells }
-    ensures index { IndexLeft (roads_held result) edges.new heads.old nexts.old heads.new nexts.new }
+    arrays: &mut PlanArrays,
+    index: &mut RoadIndex,
+) -> Result<Holding, HoldError>
+    ensures answer { result ≡ (laid_into plan.now (arrays_of arrays.old)).answer }
+    ensures left { arrays_of arrays.new ≡ (laid_into plan.now (arrays_of arrays.old)).arrays }
+    ensures same { SameArrays arrays.old arrays.new }
+    ensures index { IndexLeft (roads_held result) arrays.new.edges.now index.old index.new }
 {
-    let x = read_room(plan, edges, speeds, cells, heads, nexts);
-    if heads.len() != 1024 {
-        return x;
+    let x = read_room(plan, arrays, index);
+    if x.is_err() && index.has_room() {
+        index.clear();
     }
-    if nexts.len() != 1024 {
-        return x;
-    }
-    if let Holding::Held {
-        roads: _,
-        carts: _,
-        steps: _,
-        reports: _,
-    } = x
-    {
-        return x;
-    }
-    tables::clear_narrow(heads);
-    tables::clear_narrow(nexts);
     x
 }
 
 // Reads the plan that a slice holds: its last limits are judged, too, and its log is replayed.
-pub fn read_plan(plan: &[u8], edges: &mut [u32], speeds: &mut [u32], cells: &mut [u32]) -> Holding
-    ensures answer { result ≡ (plan_into plan.now edges.old speeds.old cells.old).answer }
-    ensures left { edges.new ≡ (plan_into plan.now edges.old speeds.old cells.old).arrays.roads }
-    ensures left_speeds { speeds.new ≡ (plan_into plan.now edges.old speeds.old cells.old).arrays.carts }
-    ensures left_cells { cells.new ≡ (plan_into plan.now edges.old speeds.old cells.old).arrays.cells }
+pub fn read_plan(plan: &[u8], arrays: &mut PlanArrays) -> Result<Holding, HoldError>
+    ensures answer { result ≡ (read_slice plan.now (arrays_of arrays.old)).answer }
+    ensures left { arrays_of arrays.new ≡ (read_slice plan.now (arrays_of arrays.old)).arrays }
+    ensures same { SameArrays arrays.old arrays.new }
 {
     let mut heads = [0u16; 1];
     let mut nexts = [0u16; 1];
-    let x = read_room(plan, edges, speeds, cells, &mut heads, &mut nexts);
-    match x {
-        Holding::TooShort => Holding::TooShort,
-        Holding::NoPlan => Holding::NoPlan,
-        Holding::Held {
-            roads: i,
-            carts: j,
-            steps: w,
-            reports: n,
-        } => {
-            if accepts_log(plan, n, cells, j, w) {
-                return Holding::Held {
-                    roads: i,
-                    carts: j,
-                    steps: w,
-                    reports: n,
-                };
-            }
-            tables::clear_all(edges, speeds, cells);
-            Holding::NoPlan
-        }
+    let mut none = RoadIndex {
+        heads: &mut heads,
+        nexts: &mut nexts,
+    };
+    let h = read_room(plan, arrays, &mut none)?;
+    if accepts_log(plan, h, arrays) {
+        return Ok(h);
     }
+    arrays.clear();
+    Err(HoldError::NoPlan)
 }

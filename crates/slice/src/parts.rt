@@ -1,111 +1,85 @@
 // How a plan slice is laid out: each of its parts is bytes other than zero, and zeros after them.
-ghost use Rattle.std.specs.Prelude.{◌≡◌, false, ℕ, ◌+◌, ◌≤◌, ◌<◌, length, drop, get_or};
+ghost use Rattle.std.specs.Prelude.{◌≡◌, ◌==◌, false, ℕ, ◌≤◌, ◌<◌, length, position, get_or};
 ghost use Rattle.slice.specs.PlanSlice.{until_zero};
 ghost use Rattle.slice.specs.Holding.{only_zeros, layout};
-ghost use Rattle.slice.specs.Texts.{texts_laid};
+ghost use Rattle.slice.specs.Texts.{text_laid, texts_laid};
 
-use crate::{Layout, part};
+use crate::{
+    CARTS_AT, LOG_AT, Layout, MOST_REPORTS, PATHS_AT, PLAN_BYTES, TABLE_BYTES, TIMES_AT, part,
+};
 
-// Whether one of the 64 bytes from a place on is zero. It never stops early, so that many bytes can be compared at once.
-fn has_zero(s: &[u8], from: usize) -> bool
-    requires { from + 64 ≤ length s.now }
-    ensures { result ≡ false → (j : ℕ) → j < 64 → 0 < get_or s.now (from + j) 0 }
+// Whether one of 64 bytes is zero. It never stops early, so that many bytes can be compared at once.
+fn has_zero(block: &[u8; 64]) -> bool
+    ensures { result ≡ false → (j : ℕ) → j < 64 → 0 < get_or block.now j 0 }
 {
-    let mut least: u8 = 255;
-    let mut i: usize = 0;
-    while i < 64 {
-        let b = s[from + i];
-        if b < least {
-            least = b;
-        }
-        i += 1;
-    }
-    least == 0
+    block.iter().fold(255, |least: u8, b| least.min(*b)) == 0
 }
 
-// How many bytes stand in blocks of 64 before the first that has a zero.
-fn blocks_length(s: &[u8]) -> usize
-    ensures { (result ≤ length s.now) × (length (until_zero s.now) ≡ result + length (until_zero (drop result s.now))) }
+// The place of the first zero.
+fn first_zero(s: &[u8]) -> Option<usize>
+    ensures { result ≡ position (λ b. b == 0) s.now }
 {
-    let mut at: usize = 0;
-    while 64 <= s.len() - at {
-        if has_zero(s, at) {
-            return at;
-        }
-        at += 64;
-    }
-    at
+    s.iter().position(|b| *b == 0)
 }
 
 // How many bytes stand before the first zero: block after block, and then byte after byte.
 fn text_length(s: &[u8]) -> usize
-    ensures { result ≡ length (until_zero s.now) }
+    ensures value { result ≡ length (until_zero s.now) }
+    ensures within { result ≤ length s.now }
 {
-    let mut i = blocks_length(s);
-    while i < s.len() {
-        if s[i] == 0 {
-            return i;
+    let mut rest = s;
+    // a `while let`: `chunks` would not say how far it came
+    while let Some((block, behind)) = rest.split_first_chunk::<64>() {
+        if has_zero(block) {
+            break;
         }
-        i += 1;
+        rest = behind;
     }
-    i
+    s.len() - rest.len() + first_zero(rest).unwrap_or(rest.len())
 }
 
-// Whether there is nothing but zeros from this place on: the greatest byte is zero. It never stops early, so that many bytes can be compared at once.
-fn all_zero(s: &[u8], from: usize) -> bool
-    ensures { result ≡ only_zeros (drop from s.now) }
+// Whether there is nothing but zeros: the greatest byte is zero. It never stops early, so that many bytes can be compared at once.
+fn all_zero(s: &[u8]) -> bool
+    ensures { result ≡ only_zeros s.now }
 {
-    let mut most: u8 = 0;
-    let mut i = from;
-    while i < s.len() {
-        if most < s[i] {
-            most = s[i];
-        }
-        i += 1;
-    }
-    most == 0
+    s.iter().fold(0, |most: u8, b| most.max(*b)) == 0
+}
+
+// The length of a part's text, if zeros follow it.
+fn find_text(s: &[u8]) -> Option<usize>
+    ensures { result ≡ text_laid s.now }
+{
+    let n = text_length(s);
+    all_zero(&s[n..]).then_some(n)
 }
 
 // The lengths of four texts, the last of which has a time for each byte, if zeros follow each and the times.
-fn find_texts(roads: &[u8], carts: &[u8], paths: &[u8], log: &[u8], times: &[u8]) -> Layout
-    requires { length log.now ≤ 4096 }
+fn find_texts(roads: &[u8], carts: &[u8], paths: &[u8], log: &[u8], times: &[u8]) -> Option<Layout>
+    requires { length log.now ≤ MOST_REPORTS }
     ensures { result ≡ texts_laid roads.now carts.now paths.now log.now times.now }
 {
-    let r = text_length(roads);
-    let c = text_length(carts);
-    let p = text_length(paths);
-    let n = text_length(log);
-    if !all_zero(roads, r) {
-        return Layout::Broken;
-    }
-    if !all_zero(carts, c) {
-        return Layout::Broken;
-    }
-    if !all_zero(paths, p) {
-        return Layout::Broken;
-    }
-    if !all_zero(log, n) {
-        return Layout::Broken;
-    }
-    if !all_zero(times, 8 * n) {
-        return Layout::Broken;
-    }
-    Layout::Parts {
+    let r = find_text(roads)?;
+    let c = find_text(carts)?;
+    let p = find_text(paths)?;
+    let n = find_text(log)?;
+    let behind = part(times, 8 * n, times.len());
+    let layout = Layout {
         roads: r,
         carts: c,
         paths: p,
         reports: n,
-    }
+    };
+    all_zero(behind).then_some(layout)
 }
 
-// Where the parts of a plan slice end, if there is nothing else in it.
-pub(crate) fn find_parts(plan: &[u8]) -> Layout
-    requires { 233472 ≤ length plan.now }
+// Where the parts of a plan slice end, if there is nothing else in it. It takes the bytes, and not a `PlanSlice`: that each is one byte is known of a slice that is handed in.
+pub(crate) fn find_parts(plan: &[u8]) -> Option<Layout>
+    requires { PLAN_BYTES ≤ length plan.now }
     ensures { result ≡ layout plan.now }
 {
-    let carts = part(plan, 65_536, 65_536);
-    let paths = part(plan, 131_072, 65_536);
-    let log = part(plan, 196_608, 4096);
-    let times = part(plan, 200_704, plan.len());
-    find_texts(&plan[..65_536], carts, paths, log, times)
+    let carts = part(plan, CARTS_AT, TABLE_BYTES);
+    let paths = part(plan, PATHS_AT, TABLE_BYTES);
+    let log = part(plan, LOG_AT, MOST_REPORTS);
+    let times = part(plan, TIMES_AT, plan.len());
+    find_texts(&plan[..TABLE_BYTES], carts, paths, log, times)
 }

@@ -1,5 +1,6 @@
 -- Roads linked by remainders: the roads passed over on the way through those of one remainder join no two cells of that remainder.
 -- Assumes nothing.
+use Rattle.std.specs.Prelude.{None, Some, Err, Ok}
 use Prim.Native.Nat.{ℕ, zero, suc, ◌+◌, ◌*◌, ◌-◌, ◌%◌, ◌≤◌, ◌<◌}
 use native.Mathlib.Nat.{eq-or-lt_of_le, add_comm}
 use native.Mathlib.Numerals.{add-one}
@@ -8,21 +9,20 @@ use mathlib.Core.Path.{◌≡◌, refl, ap, ap₂, sym, ◌∙◌, subst}
 use mathlib.Core.Logic.{◌≢◌, ⊎_elim}
 use mathlib.Core.Bool.{Bool, true, false, ◌&&◌, ◌||◌, cond}
 use mathlib.Core.List.{List, [], ◌∷◌, flat_map}
-use mathlib.Core.Option.{none, some}
 use lib.Dec.{eqb}
-use lib.ListN.{length, drop, get_or, set, replicate, length-set}
+use lib.ListN.{length, drop, get_or, set, replicate, length-set, length-replicate}
 use lib.Seq.{sets, get_or-drop, get_or-set_same, get_or-set_other}
 use borrow.Author.Tests.{eq-eqb, eqb-true, eqb-false}
 use Rattle.floor.specs.declared.Refusal.{Refusal}
-use Rattle.floor.specs.Refusal.{Judged, refused, accepted}
-use Rattle.floor.specs.Plan.{Road, joins, road_between, joined}
+use Rattle.floor.specs.Refusal.{Judged}
+use Rattle.floor.specs.Plan.{joins, road_between, joined}
+use Rattle.floor.specs.declared.Road.{Road}
 use Rattle.floor.specs.Roads.{road}
 use Rattle.words.specs.Words.{padded}
-use Rattle.tables.specs.declared.Taken.{Taken}
-use Rattle.tables.specs.declared.Count.{Count}
 use Rattle.tables.specs.Arrays.{road_numbers, roads_in}
-use Rattle.tables.specs.Index.{bucket, bucket_at, last_in, Indexed}
-use Rattle.tables.specs.Reading.{taken, stored, counted}
+use Rattle.tables.specs.Index.{bucket, bucket_at, last_in, Indexed, Linked, Unlinked}
+use Rattle.tables.specs.declared.lent.RoadIndex.{RoadIndex}
+use Rattle.tables.specs.Reading.{taken, stored, counted, Count}
 use Rattle.floor.proofs.Judging.{refused_not_accepted, accepted_same}
 use Rattle.tables.proofs.Searches.{either, both_fail}
 use Rattle.tables.proofs.Turns.{Turn, left_refused, left_taken, refused_ends, all_taken, last_turn}
@@ -34,7 +34,7 @@ joined_cons : (r : Road) (rs : List Road) (a b : ℕ) → joined (r ∷ rs) a b 
 unfolding joined road_between
 joined_cons r rs a b = by (joins a b r)
   where
-    by : (t : Bool) → ◌≡◌ {A = Bool} (elim (cond t (some r) (road_between rs a b)) [ none ↦ false | some r ↦ true ]) (t || joined rs a b)
+    by : (t : Bool) → ◌≡◌ {A = Bool} (elim (cond t (Some r) (road_between rs a b)) [ None ↦ false | Some r ↦ true ]) (t || joined rs a b)
     by true = refl
     by false = refl
 
@@ -146,7 +146,7 @@ module _ (s heads nexts : List ℕ) (n : ℕ) (k : Indexed n s heads nexts) (a b
       let first : get_or heads r 0 ≡ last_in s (bucket a b) n = k.heads_are r l ∙ ap (λ (m : ℕ). last_in s m n) e in
       subst (Way s n a b) (sym first) (last_most s (bucket a b) n, last_there s (bucket a b) n, last_skip s a b n)
 
-  module _ (p : ℕ) (w : Way s n a b p) (some : 0 < p) where
+  module _ (p : ℕ) (w : Way s n a b p) (Some : 0 < p) where
     at_hand : joined (roads_in p s) a b ≡ joined (roads_in (suc (p - 1)) s) a b
     at_hand = let one : p ≡ suc (p - 1) = omega arith in ap (λ (m : ℕ). joined (roads_in m s) a b) one
 
@@ -168,7 +168,7 @@ module _ (s heads nexts : List ℕ) (n : ℕ) (k : Indexed n s heads nexts) (a b
     way_goes f g =
         let within : p ≤ n = w.0 in
         let next : get_or nexts (p - 1) 0 ≡ last_in s (bucket a b) (p - 1) =
-        k.nexts_are (p - 1) (omega arith) ∙ ap (λ (m : ℕ). last_in s m (p - 1)) (w.1 some) in
+        k.nexts_are (p - 1) (omega arith) ∙ ap (λ (m : ℕ). last_in s m (p - 1)) (w.1 Some) in
         let most : last_in s (bucket a b) (p - 1) ≤ p - 1 = last_most s (bucket a b) (p - 1) in
         subst (Way s n a b) (sym next) (
           omega arith,
@@ -198,6 +198,15 @@ none_indexed n m s heads nexts e f =
       heads_end = λ b h. ap (λ (x : List ℕ). get_or x b 0) e ∙ zeros_at n b;
       nexts_are = λ j h. absurd (omega arith);
       nexts_end = λ j h. ap (λ (x : List ℕ). get_or x j 0) f ∙ zeros_at m j;
+    }
+
+-- in arrays that have room
+pub none_linked : (s : List ℕ) (i : RoadIndex) → Unlinked i → Linked 0 s i
+none_linked s i (e, f) =
+    record {
+      heads_long = ap (length {A = ℕ}) e ∙ length-replicate {A = ℕ} 1024 0;
+      nexts_long = ap (length {A = ℕ}) f ∙ length-replicate {A = ℕ} 1024 0;
+      indexed = none_indexed 1024 1024 s i.heads.now i.nexts.now e f;
     }
 
 -- the index of n roads is that of any array that begins with them
@@ -304,42 +313,42 @@ module _ (n : ℕ) (s : List ℕ) (a b l m : ℕ) where
           ∙ get_or-set_same one (4 * n + 1) b 0 (omega (arith, length-set s (4 * n) a))
 
 -- what is left of one that is refused
-pub road_refused : (n : ℕ) (s heads nexts : List ℕ) (j : Judged Road) (r : Refusal) → j ≡ refused r
-    → (Taken.Refused r.reason ≡ taken j) × ((s ≡ stored road_numbers (4 * n) j s) × ((d : Road) → j ≡ accepted d → Indexed (n + 1) s heads nexts))
-road_refused n s heads nexts j r e =
+pub road_refused : (n : ℕ) (s : List ℕ) (i : RoadIndex) (j : Judged Road) (r : Refusal) → j ≡ Err r
+    → (Err r.reason ≡ taken j) × ((s ≡ stored road_numbers (4 * n) j s) × ((d : Road) → j ≡ Ok d → Linked (n + 1) s i))
+road_refused n s i j r e =
     let (a, b) = left_refused road_numbers (4 * n) s j r e in
     (a, (b, λ d f. absurd (refused_not_accepted r d (sym e ∙ f))))
 
 -- and of one that is taken
-pub road_linked : (n : ℕ) (s s' heads nexts : List ℕ) (j : Judged Road) (d : Road) → j ≡ accepted d → s' ≡ sets s (4 * n) (road_numbers d) → Indexed (n + 1) s' heads nexts
-    → (Taken.Kept ≡ taken j) × ((s' ≡ stored road_numbers (4 * n) j s) × ((d : Road) → j ≡ accepted d → Indexed (n + 1) s' heads nexts))
-road_linked n s s' heads nexts j d e put k =
+pub road_linked : (n : ℕ) (s s' : List ℕ) (i : RoadIndex) (j : Judged Road) (d : Road) → j ≡ Ok d → s' ≡ sets s (4 * n) (road_numbers d) → Linked (n + 1) s' i
+    → ((Ok tt) ≡ taken j) × ((s' ≡ stored road_numbers (4 * n) j s) × ((d : Road) → j ≡ Ok d → Linked (n + 1) s' i))
+road_linked n s s' i j d e put k =
     let (a, b) = left_taken road_numbers (4 * n) s s' j d e put in
     (a, (b, λ d f. k))
 
 -- ---- the table
 
 -- the answer, and where the roads are taken, their numbers and their index
-abbrev pub RoadsEnd : Judged (List Road) → ℕ → Count → List ℕ → List ℕ → List ℕ → Type 0
-RoadsEnd whole size r s heads nexts =
+abbrev pub RoadsEnd : Judged (List Road) → ℕ → Count → List ℕ → RoadIndex → Type 0
+RoadsEnd whole size r s i =
     (r ≡ counted whole)
-    × (((ds : List Road) → whole ≡ accepted ds → s ≡ padded size (flat_map road_numbers ds)) × ((ds : List Road) → whole ≡ accepted ds → Indexed (length ds) s heads nexts))
+    × (((ds : List Road) → whole ≡ Ok ds → s ≡ padded size (flat_map road_numbers ds)) × ((ds : List Road) → whole ≡ Ok ds → Linked (length ds) s i))
 
 -- of a table that is refused
-pub no_roads : (whole : Judged (List Road)) (size : ℕ) (s heads nexts : List ℕ) (r : Refusal) → whole ≡ refused r → RoadsEnd whole size (Count.Refused r) s heads nexts
-no_roads whole size s heads nexts r e =
+pub no_roads : (whole : Judged (List Road)) (size : ℕ) (s : List ℕ) (i : RoadIndex) (r : Refusal) → whole ≡ Err r → RoadsEnd whole size (Err r) s i
+no_roads whole size s i r e =
     let (a, b) = refused_ends road road_numbers whole size s r e in
     (a, (b, λ ds f. absurd (refused_not_accepted r ds (sym e ∙ f))))
 
 -- of one whose roads are all taken
-pub all_roads : (whole : Judged (List Road)) (t : List ℕ) (size : ℕ) (s heads nexts : List ℕ) (at n : ℕ) → Turn road road_numbers whole t size s at n → length t ≤ at
-    → Indexed n s heads nexts → RoadsEnd whole size (Count.Read n) s heads nexts
-all_roads whole t size s heads nexts at n u h k =
-    let e : whole ≡ accepted u.before = all_taken road road_numbers whole t size s at n u h in
-    let (a, b) = last_turn road road_numbers whole t size s at n u h in
-    (a, (b, λ ds f. subst (λ (m : ℕ). Indexed m s heads nexts) (sym u.count ∙ ap (length {A = Road}) (accepted_same _ _ (sym e ∙ f))) k))
+pub all_roads : (whole : Judged (List Road)) (left : List (List ℕ)) (size : ℕ) (s : List ℕ) (i : RoadIndex) (n : ℕ) → Turn road road_numbers whole left size s n → left ≡ []
+    → Linked n s i → RoadsEnd whole size (Ok n) s i
+all_roads whole left size s i n u h k =
+    let e : whole ≡ Ok u.before = all_taken road road_numbers whole left size s n u h in
+    let (a, b) = last_turn road road_numbers whole left size s n u h in
+    (a, (b, λ ds f. subst (λ (m : ℕ). Linked m s i) (sym u.count ∙ ap (length {A = Road}) (accepted_same _ _ (sym e ∙ f))) k))
 
 -- of one that says what another says
-pub roads_as : (whole other : Judged (List Road)) (size : ℕ) (r : Count) (s heads nexts : List ℕ) → whole ≡ other
-    → RoadsEnd other size r s heads nexts → RoadsEnd whole size r s heads nexts
-roads_as whole other size r s heads nexts e h = subst (λ (x : Judged (List Road)). RoadsEnd x size r s heads nexts) (sym e) h
+pub roads_as : (whole other : Judged (List Road)) (size : ℕ) (r : Count) (s : List ℕ) (i : RoadIndex) → whole ≡ other
+    → RoadsEnd other size r s i → RoadsEnd whole size r s i
+roads_as whole other size r s i e h = subst (λ (x : Judged (List Road)). RoadsEnd x size r s i) (sym e) h

@@ -1,4 +1,5 @@
 -- A record of the table of paths, case by case, as the code meets them. Assumes nothing.
+use Rattle.std.specs.Prelude.{None, Some, Err, Ok, option_map}
 use Prim.Native.Nat.{ℕ, zero, suc, ◌+◌, ◌*◌, ◌-◌, ◌≤◌, ◌<◌}
 use native.Mathlib.Nat.{zero-mul, suc-mul, one-mul}
 use native.Mathlib.Omega.{arith}
@@ -6,7 +7,6 @@ use mathlib.Core.Path.{◌≡◌, refl, ap, sym, ◌∙◌, subst}
 use mathlib.Core.Logic.{◌⊎◌, inl, inr}
 use mathlib.Core.Bool.{Bool, true, false, ◌&&◌}
 use mathlib.Core.List.{List, [], ◌∷◌, ◌++◌, map, append-nil, append_assoc}
-use mathlib.Core.Option.{none, some}
 use lib.Dec.{leb, eqb}
 use lib.ListN.{length, take, drop, length-drop}
 use lib.Seq.{sets, sets-eq, take_all, drop-length, drop-drop, length-take-le}
@@ -14,20 +14,18 @@ use borrow.Author.Tests.{lt-leb, le-leb, eq-eqb, ne_eqb}
 use borrow.Rule.Slice.PartMut.{put_mid, Post-is}
 use Rattle.words.specs.Words.{written}
 use Rattle.rfc4180.specs.Records.{fields}
+use Rattle.rfc4180.specs.Answers.{counted}
 use Rattle.rfc4180.specs.Number.{numbers, leading, greatest, capped}
-use Rattle.rfc4180.specs.Answers.{fields_answer}
-use Rattle.rfc4180.specs.declared.Fields.{Fields}
 use Rattle.rfc4180.proofs.Reading.{all_within, greatest_within, leading_all, capped_small, rest_is, answered_numbers, answered_none}
 use Rattle.floor.specs.declared.Reason.{Reason}
 use Rattle.floor.specs.declared.Reason.TheVariants.{Layout, Range, Limit}
 use Rattle.floor.specs.declared.Table.TheVariants.{Paths}
 use Rattle.floor.specs.declared.Refusal.{Refusal}
-use Rattle.tables.specs.declared.PathTaken.{PathTaken}
-use Rattle.floor.specs.Refusal.{Judged, refused, accepted, ◌>>◌, need, next}
+use Rattle.floor.specs.Refusal.{Judged, ◌>>◌, need, next}
 use Rattle.floor.specs.Roads.{cell_range}
 use Rattle.floor.specs.Paths.{cells_range, same_width, path}
 use Rattle.tables.specs.Arrays.{paths_in}
-use Rattle.tables.specs.Reading.{path_taken}
+use Rattle.tables.specs.Reading.{path_taken, PathTaken}
 use Rattle.floor.proofs.Judging.{pass, stop, got, lacks, refused_not_accepted, accepted_same}
 use Rattle.tables.proofs.Turns.{Says, says_need, says_given}
 
@@ -51,17 +49,17 @@ abbrev path_tests : List (List ℕ) → List ℕ → Judged (List ℕ)
 path_tests before cs = do
   need (cells_range cs) Range Paths (next before)
   need (leb (length cs) 1024 && leb (next before * length cs) 8192) Limit Paths (next before)
-  accepted cs
+  Ok cs
 
 module _ (before : List (List ℕ)) (r : List ℕ) where
   -- a field that is no number
-  pub path_malformed : numbers (fields r) ≡ none → path before r ≡ refused (after before Layout)
+  pub path_malformed : numbers (fields r) ≡ None → path before r ≡ Err (after before Layout)
   unfolding path
   path_malformed e = lacks (numbers (fields r)) Layout Paths (next before) _ e
 
-  module _ (cs : List ℕ) (e : numbers (fields r) ≡ some cs) where
+  module _ (cs : List ℕ) (e : numbers (fields r) ≡ Some cs) where
     -- not as many as the first
-    pub path_width : same_width before (length cs) ≡ false → path before r ≡ refused (after before Layout)
+    pub path_width : same_width before (length cs) ≡ false → path before r ≡ Err (after before Layout)
     unfolding path
     path_width h = got (numbers (fields r)) Layout Paths (next before) _ cs e ∙ stop (same_width before (length cs)) Layout Paths (next before) _ h
 
@@ -72,15 +70,15 @@ module _ (before : List (List ℕ)) (r : List ℕ) where
       path_wide = got (numbers (fields r)) Layout Paths (next before) _ cs e ∙ pass (same_width before (length cs)) Layout Paths (next before) _ wide
 
       -- a cell out of its range
-      pub path_range : 65534 < greatest cs → path before r ≡ refused (after before Range)
+      pub path_range : 65534 < greatest cs → path before r ≡ Err (after before Range)
       path_range h = path_wide ∙ stop (cells_range cs) Range Paths (next before) _ (cells_greatest cs ∙ lt-leb _ _ h)
 
       module _ (small : greatest cs ≤ 65534) where
-        path_in_range : path before r ≡ (need (leb (length cs) 1024 && leb (next before * length cs) 8192) Limit Paths (next before) >> accepted cs)
+        path_in_range : path before r ≡ (need (leb (length cs) 1024 && leb (next before * length cs) 8192) Limit Paths (next before) >> Ok cs)
         path_in_range = path_wide ∙ pass (cells_range cs) Range Paths (next before) _ (cells_greatest cs ∙ le-leb _ _ small)
 
         -- too many steps
-        pub path_long : 1024 < length cs → path before r ≡ refused (after before Limit)
+        pub path_long : 1024 < length cs → path before r ≡ Err (after before Limit)
         path_long h =
             path_in_range ∙ stop _ Limit Paths (next before) _ (ap (λ (b : Bool). b && leb (next before * length cs) 8192) (lt-leb _ _ h))
 
@@ -89,11 +87,11 @@ module _ (before : List (List ℕ)) (r : List ℕ) where
           limits b h = ap (λ (x : Bool). x && leb (next before * length cs) 8192) (le-leb _ _ short) ∙ h
 
           -- too many cells in all
-          pub path_over : 8192 < next before * length cs → path before r ≡ refused (after before Limit)
+          pub path_over : 8192 < next before * length cs → path before r ≡ Err (after before Limit)
           path_over h = path_in_range ∙ stop _ Limit Paths (next before) _ (limits false (lt-leb _ _ h))
 
           -- a path
-          pub path_kept : next before * length cs ≤ 8192 → path before r ≡ accepted cs
+          pub path_kept : next before * length cs ≤ 8192 → path before r ≡ Ok cs
           path_kept h = path_in_range ∙ pass _ Limit Paths (next before) _ (limits true (le-leb _ _ h))
 
 -- a refusal names the paths and the next record
@@ -141,14 +139,14 @@ cells_more n w m s (inr e) = ap (λ (k : ℕ). suc k * m) (paths_in_length n w s
 -- ---- what is answered, and the array
 
 -- of a record that is refused
-pub path_left_refused : (at : ℕ) (s s' : List ℕ) (j : Judged (List ℕ)) (r : Refusal) → j ≡ refused r
-    → (PathTaken.Refused r.reason ≡ path_taken j) × ((cs : List ℕ) → j ≡ accepted cs → s' ≡ sets s at cs)
+pub path_left_refused : (at : ℕ) (s s' : List ℕ) (j : Judged (List ℕ)) (r : Refusal) → j ≡ Err r
+    → (Err r.reason ≡ path_taken j) × ((cs : List ℕ) → j ≡ Ok cs → s' ≡ sets s at cs)
 unfolding path_taken
 path_left_refused at s s' j r e = (sym (ap path_taken e), λ cs f. absurd (refused_not_accepted r cs (sym e ∙ f)))
 
 -- of one that is taken
-pub path_left_kept : (at : ℕ) (s s' cs : List ℕ) (j : Judged (List ℕ)) → j ≡ accepted cs → s' ≡ sets s at cs
-    → (PathTaken.Kept (length cs) ≡ path_taken j) × ((ds : List ℕ) → j ≡ accepted ds → s' ≡ sets s at ds)
+pub path_left_kept : (at : ℕ) (s s' cs : List ℕ) (j : Judged (List ℕ)) → j ≡ Ok cs → s' ≡ sets s at cs
+    → (Ok (length cs) ≡ path_taken j) × ((ds : List ℕ) → j ≡ Ok ds → s' ≡ sets s at ds)
 unfolding path_taken
 path_left_kept at s s' cs j e put = (sym (ap path_taken e), λ ds f. put ∙ ap (sets s at) (accepted_same cs ds (sym e ∙ f)))
 
@@ -162,7 +160,7 @@ small_capped (c ∷ cs) h =
     ap (λ (k : ℕ). k ∷ map capped cs) one ∙ ap (λ (l : List ℕ). c ∷ l) (small_capped cs more)
 
 -- the numbers of a record, read into the places from `base` on
-pub path_put : (s : List ℕ) (base : ℕ) (fs : List (List ℕ)) (cs o : List ℕ) → numbers fs ≡ some cs → greatest cs ≤ 65534 → base + length cs ≤ length s
+pub path_put : (s : List ℕ) (base : ℕ) (fs : List (List ℕ)) (cs o : List ℕ) → numbers fs ≡ Some cs → greatest cs ≤ 65534 → base + length cs ≤ length s
     → o ≡ written (take (length (take (length s - base) (drop base s))) (map capped (leading fs))) (take (length s - base) (drop base s))
     → put_mid base (length s - base) s o ≡ sets s base cs
 unfolding written
@@ -184,18 +182,18 @@ path_put s base fs cs o e small room q =
 module _ (n w : ℕ) (s r : List ℕ) (room : (n * w ≤ 8192) × (8192 ≤ length s)) where
   -- the answer, and what the array is then
   abbrev Left : PathTaken → List ℕ → Type 0
-  Left a s' = (a ≡ path_taken (path (paths_in n w s) r)) × ((cs : List ℕ) → path (paths_in n w s) r ≡ accepted cs → s' ≡ sets s (n * w) cs)
+  Left a s' = (a ≡ path_taken (path (paths_in n w s) r)) × ((cs : List ℕ) → path (paths_in n w s) r ≡ Ok cs → s' ≡ sets s (n * w) cs)
 
   fits : n * w ≤ length s
   fits = omega arith
 
   -- a field that is no number
-  pub take_malformed : Fields.Malformed ≡ fields_answer (numbers (fields r)) → (s' : List ℕ) → Left (PathTaken.Refused Layout) s'
+  pub take_malformed : None ≡ option_map counted (numbers (fields r)) → (s' : List ℕ) → Left (Err Layout) s'
   take_malformed e s' = path_left_refused (n * w) s s' _ _ (path_malformed (paths_in n w s) r (answered_none _ e))
 
-  module _ (m most : ℕ) (e : Fields.Numbers m most ≡ fields_answer (numbers (fields r))) where
+  module _ (m most : ℕ) (e : Some (record { count = m; greatest = most }) ≡ option_map counted (numbers (fields r))) where
     -- not as many as those before
-    pub take_other : (n ≡ 0 → ⊥) → (m ≡ w → ⊥) → (s' : List ℕ) → Left (PathTaken.Refused Layout) s'
+    pub take_other : (n ≡ 0 → ⊥) → (m ≡ w → ⊥) → (s' : List ℕ) → Left (Err Layout) s'
     take_other some' other s' =
         let (cs, is, count, _) = answered_numbers _ m most e in
         path_left_refused (n * w) s s' _ _ (path_width (paths_in n w s) r cs is (not_as_wide n w (length cs) s some' (λ q. other (count ∙ q)) fits))
@@ -208,21 +206,21 @@ module _ (n w : ℕ) (s r : List ℕ) (room : (n * w ≤ 8192) × (8192 ≤ leng
       all_cells cs count = subst (λ (k : ℕ). next (paths_in n w s) * k ≡ n * w + m) count (cells_more n w m s as_many)
 
       -- a cell out of its range
-      pub take_range : 65534 < most → (s' : List ℕ) → Left (PathTaken.Refused Range) s'
+      pub take_range : 65534 < most → (s' : List ℕ) → Left (Err Range) s'
       take_range h s' =
           let (cs, is, count, top) = answered_numbers _ m most e in
           path_left_refused (n * w) s s' _ _ (path_range (paths_in n w s) r cs is (wide cs count) (omega (arith, h, top)))
 
       module _ (small : most ≤ 65534) where
         -- too many steps
-        pub take_long : 1024 < m → (s' : List ℕ) → Left (PathTaken.Refused Limit) s'
+        pub take_long : 1024 < m → (s' : List ℕ) → Left (Err Limit) s'
         take_long h s' =
             let (cs, is, count, top) = answered_numbers _ m most e in
             path_left_refused (n * w) s s' _ _ (path_long (paths_in n w s) r cs is (wide cs count) (omega (arith, small, top)) (omega (arith, h, count)))
 
         module _ (short : m ≤ 1024) where
           -- too many cells in all
-          pub take_over : 8192 < n * w + m → (s' : List ℕ) → Left (PathTaken.Refused Limit) s'
+          pub take_over : 8192 < n * w + m → (s' : List ℕ) → Left (Err Limit) s'
           take_over h s' =
               let (cs, is, count, top) = answered_numbers _ m most e in
               path_left_refused (n * w) s s' _ _
@@ -231,11 +229,11 @@ module _ (n w : ℕ) (s r : List ℕ) (room : (n * w ≤ 8192) × (8192 ≤ leng
           -- a path
           pub take_kept : n * w + m ≤ 8192 → (o : List ℕ)
               → o ≡ written (take (length (take (length s - n * w) (drop (n * w) s))) (map capped (leading (fields r)))) (take (length s - n * w) (drop (n * w) s))
-              → Left (PathTaken.Kept m) (put_mid (n * w) (length s - n * w) s o)
+              → Left (Ok m) (put_mid (n * w) (length s - n * w) s o)
           take_kept h o q =
               let (cs, is, count, top) = answered_numbers _ m most e in
-              let kept : path (paths_in n w s) r ≡ accepted cs =
+              let kept : path (paths_in n w s) r ≡ Ok cs =
               path_kept (paths_in n w s) r cs is (wide cs count) (omega (arith, small, top)) (omega (arith, short, count)) (omega (arith, h, all_cells cs count)) in
               let put : put_mid (n * w) (length s - n * w) s o ≡ sets s (n * w) cs =
               path_put s (n * w) (fields r) cs o is (omega (arith, small, top)) (omega (arith, h, count, room)) q in
-              subst (λ (k : ℕ). Left (PathTaken.Kept k) (put_mid (n * w) (length s - n * w) s o)) (sym count) (path_left_kept (n * w) s _ cs _ kept put)
+              subst (λ (k : ℕ). Left (Ok k) (put_mid (n * w) (length s - n * w) s o)) (sym count) (path_left_kept (n * w) s _ cs _ kept put)

@@ -1,10 +1,10 @@
 -- The numbers that a refusal comes to are small: its reason's, its table's, and its record's, since a limit stops each table. Assumes nothing.
+use Rattle.std.specs.Prelude.{Option, None, Some, Err, Ok}
 use Prim.Native.Nat.{ℕ, zero, suc, ◌+◌, ◌-◌, ◌≤◌}
 use native.Mathlib.Omega.{arith}
 use mathlib.Core.Path.{◌≡◌, refl, ap, sym, subst}
 use mathlib.Core.Bool.{Bool, true, false, cond}
 use mathlib.Core.List.{List, [], ◌∷◌, ◌++◌, map}
-use mathlib.Core.Option.{Option, none, some}
 use lib.Dec.{leb, eqb}
 use lib.ListN.{length, length-append, length-map}
 use Rattle.rfc4180.specs.Text.{bytes, same}
@@ -14,8 +14,9 @@ use Rattle.floor.specs.declared.Reason.TheVariants.{Layout, Range, RoadPair, Lim
 use Rattle.floor.specs.declared.Table.{Table}
 use Rattle.floor.specs.declared.Table.TheVariants.{Roads, Carts, Paths}
 use Rattle.floor.specs.declared.Refusal.{Refusal}
-use Rattle.floor.specs.Refusal.{reason_number, table_number, Judged, refused, accepted, ◌>>=◌, need, unless_found, within_bytes, after_first_line, next, records_in_order}
-use Rattle.floor.specs.Plan.{Road, Cart}
+use Rattle.floor.specs.Refusal.{reason_number, table_number, Judged, ◌>>=◌, need, unless_found, within_bytes, after_first_line, next, records_in_order}
+use Rattle.floor.specs.declared.Road.{Road}
+use Rattle.floor.specs.declared.Cart.{Cart}
 use Rattle.floor.specs.Roads.{road, read_roads}
 use Rattle.floor.specs.Carts.{cart, read_carts}
 use Rattle.floor.specs.Paths.{path, read_paths, on_roads, off_road, collides, first_collision, earliest, at_step, same_cell, Move, exchanged, exchange, first_same_cell, first_exchange, steps}
@@ -51,23 +52,23 @@ table_small Paths = omega arith
 
 -- a refusal, if there is one, names a record up to this one
 abbrev pub UpTo : {A : Type 0} → ℕ → Judged A → Type 0
-UpTo k (refused r) = r.row ≤ k
-UpTo k (accepted a) = Unit {0}
+UpTo k (Err r) = r.row ≤ k
+UpTo k (Ok a) = Unit {0}
 
 -- of a judgement that refuses
-pub refused_up_to : {A : Type 0} (k : ℕ) (m : Judged A) (r : Refusal) → UpTo k m → m ≡ refused r → r.row ≤ k
+pub refused_up_to : {A : Type 0} (k : ℕ) (m : Judged A) (r : Refusal) → UpTo k m → m ≡ Err r → r.row ≤ k
 refused_up_to k m r h e = subst (UpTo k) e h
 
 -- one that names a record further back
 says_up_to : {A : Type 0} (k : ℕ) (t : Table) (i : ℕ) (m : Judged A) → Says t i m → i ≤ k → UpTo k m
-says_up_to k t i (refused r) h l = subst (λ (n : ℕ). n ≤ k) (sym (ap (λ (x : Refusal). x.row) h)) l
-says_up_to k t i (accepted a) h l = tt
+says_up_to k t i (Err r) h l = subst (λ (n : ℕ). n ≤ k) (sym (ap (λ (x : Refusal). x.row) h)) l
+says_up_to k t i (Ok a) h l = tt
 
 -- a step, and then the rest
-pub bind_up_to : {A B : Type 0} (k : ℕ) (m : Judged A) (f : A → Judged B) → UpTo k m → ((a : A) → m ≡ accepted a → UpTo k (f a)) → UpTo k (m >>= f)
+pub bind_up_to : {A B : Type 0} (k : ℕ) (m : Judged A) (f : A → Judged B) → UpTo k m → ((a : A) → m ≡ Ok a → UpTo k (f a)) → UpTo k (m >>= f)
 unfolding ◌>>=◌
-bind_up_to k (refused r) f h rest = h
-bind_up_to k (accepted a) f h rest = rest a refl
+bind_up_to k (Err r) f h rest = h
+bind_up_to k (Ok a) f h rest = rest a refl
 
 -- a test there, and then the rest
 pub need_up_to : {B : Type 0} (k : ℕ) (b : Bool) (why : Reason) (t : Table) (i : ℕ) (m : Judged B) → i ≤ k → UpTo k m → UpTo k (need b why t i >>= λ _. m)
@@ -79,12 +80,12 @@ need_up_to k false why t i m l h = l
 line_up_to : (k : ℕ) (line : List ℕ) (t : Table) (rs : List (List ℕ)) → UpTo k (after_first_line line t rs)
 unfolding after_first_line
 line_up_to k line t [] = omega arith
-line_up_to k line t (r ∷ rs) = need_up_to k (same line r) Layout t 0 (accepted rs) (omega arith) tt
+line_up_to k line t (r ∷ rs) = need_up_to k (same line r) Layout t 0 (Ok rs) (omega arith) tt
 
 -- records in order, of which so many may be before one
 in_order_up_to : {A : Type 0} (k : ℕ) (judge : List A → List ℕ → Judged A) (P : List A → Type 0)
     → ((before : List A) (r : List ℕ) → P before → UpTo k (judge before r))
-    → ((before : List A) (r : List ℕ) (a : A) → P before → judge before r ≡ accepted a → P (before ++ (a ∷ [])))
+    → ((before : List A) (r : List ℕ) (a : A) → P before → judge before r ≡ Ok a → P (before ++ (a ∷ [])))
     → (rs : List (List ℕ)) (before : List A) → P before → UpTo k (records_in_order judge before rs)
 unfolding records_in_order
 in_order_up_to k judge P one keep [] before h = tt
@@ -112,7 +113,7 @@ carts_up_to b =
     (in_order_up_to 8193 cart (λ (x : List Cart). length x ≤ 64)
     (λ before r h. says_up_to 8193 Carts (suc (length before)) (cart before r) (cart_says before r) (omega arith))
     (λ before r c h one. let few = (cart_sound before r c one).1 in omega (arith, few, length-append before (c ∷ []))) rs [] (omega arith)) λ cs _.
-    need_up_to 8193 (leb 1 (length cs)) NoCarts Carts 0 (accepted cs) (omega arith) tt)
+    need_up_to 8193 (leb 1 (length cs)) NoCarts Carts 0 (Ok cs) (omega arith) tt)
 
 paths_up_to : (carts : ℕ) (b : List ℕ) → UpTo 8193 (read_paths carts b)
 unfolding read_paths within_bytes next
@@ -122,20 +123,20 @@ paths_up_to carts b =
     (in_order_up_to 8193 path Even
     (λ before r h. let few = even_few before h in says_up_to 8193 Paths (suc (length before)) (path before r) (path_says before r) (omega (arith, few)))
     even_more (records b) [] even_none) λ ps _.
-    need_up_to 8193 (eqb (length ps) carts) PathCount Paths 0 (accepted ps) (omega arith) tt)
+    need_up_to 8193 (eqb (length ps) carts) PathCount Paths 0 (Ok ps) (omega arith) tt)
 
 -- ---- the searches
 
 -- a record that is found is up to this one
 abbrev FoundUpTo : ℕ → Option ℕ → Type 0
-FoundUpTo k none = Unit {0}
-FoundUpTo k (some i) = i ≤ k
+FoundUpTo k None = Unit {0}
+FoundUpTo k (Some i) = i ≤ k
 
 -- a search, and then the rest
 unless_up_to : {B : Type 0} (k : ℕ) (o : Option ℕ) (why : Reason) (m : Judged B) → FoundUpTo k o → UpTo k m → UpTo k (unless_found o why >>= λ _. m)
 unfolding unless_found ◌>>=◌
-unless_up_to k none why m l h = h
-unless_up_to k (some i) why m l h = l
+unless_up_to k None why m l h = h
+unless_up_to k (Some i) why m l h = l
 
 -- a path that leaves the roads is one of them
 off_road_up_to : (k : ℕ) (rs : List Road) (i : ℕ) (ps : List (List ℕ)) → i + length ps ≤ suc k → FoundUpTo k (off_road rs i ps)
@@ -143,7 +144,7 @@ unfolding off_road
 off_road_up_to k rs i [] l = tt
 off_road_up_to k rs i (p ∷ ps) l = by (on_roads rs p) (off_road_up_to k rs (suc i) ps (omega arith))
   where
-    by : (t : Bool) → FoundUpTo k (off_road rs (suc i) ps) → FoundUpTo k (cond t (off_road rs (suc i) ps) (some i))
+    by : (t : Bool) → FoundUpTo k (off_road rs (suc i) ps) → FoundUpTo k (cond t (off_road rs (suc i) ps) (Some i))
     by true more = more
     by false more = omega arith
 
@@ -153,7 +154,7 @@ unfolding first_collision next
 collision_up_to k f before [] l = tt
 collision_up_to k f before (x ∷ xs) l = by (collides f x before) (collision_up_to k f (before ++ (x ∷ [])) xs (omega (arith, length-append before (x ∷ []))))
   where
-    by : (t : Bool) → FoundUpTo k (first_collision f (before ++ (x ∷ [])) xs) → FoundUpTo k (cond t (some (next before)) (first_collision f (before ++ (x ∷ [])) xs))
+    by : (t : Bool) → FoundUpTo k (first_collision f (before ++ (x ∷ [])) xs) → FoundUpTo k (cond t (Some (next before)) (first_collision f (before ++ (x ∷ [])) xs))
     by true more = omega arith
     by false more = more
 
@@ -164,9 +165,9 @@ earliest_up_to k f h s zero = tt
 earliest_up_to k f h s (suc n) = by (f s) (h s) (earliest_up_to k f h (suc s) n)
   where
     by : (o : Option ℕ) → FoundUpTo k o → FoundUpTo k (earliest f (suc s) n)
-        → FoundUpTo k (elim o as (λ _. Option ℕ) [ none ↦ earliest f (suc s) n | some i ↦ some i ])
-    by none one more = more
-    by (some i) one more = one
+        → FoundUpTo k (elim o as (λ _. Option ℕ) [ None ↦ earliest f (suc s) n | Some i ↦ Some i ])
+    by None one more = more
+    by (Some i) one more = one
 
 -- two carts in one cell
 same_up_to : (k : ℕ) (ps : List (List ℕ)) → length ps ≤ k → FoundUpTo k (first_same_cell ps)

@@ -1,45 +1,41 @@
 -- A record of the table of roads, case by case, as the code meets them. Assumes nothing.
+use Rattle.std.specs.Prelude.{Option, None, Some, Err, Ok, Result, option_map}
 use Prim.Native.Nat.{ℕ, zero, suc, ◌*◌, ◌-◌, ◌≤◌, ◌<◌}
 use native.Mathlib.Omega.{arith}
 use mathlib.Core.Path.{◌≡◌, refl, ap, sym, ◌∙◌, subst}
 use mathlib.Core.Bool.{Bool, true, false, ◌&&◌, not, cond}
 use mathlib.Core.List.{List, [], ◌∷◌, ◌++◌, map, flat_map, append-nil}
-use mathlib.Core.Option.{Option, none, some, some-ne-none, none-ne-some, some-injective}
 use mir.Facts.{and_yes}
 use lib.Dec.{T, leb, eqb, leb→le, ltb→lt}
 use lib.ListN.{length, take, drop, get_or, replicate, length-map, get_or-map, drop_of_length-le}
 use lib.Seq.{take-length}
 use borrow.Author.Tests.{lt-leb, le-leb, eq-eqb, ne_eqb, not-true, not-false}
+use Rattle.laws.proofs.Options.{some-ne-none, none-ne-some, some-injective}
 use Rattle.laws.proofs.Tests.{fails}
 use Rattle.words.specs.Words.{padded, written}
 use Rattle.rfc4180.specs.Records.{fields}
-use Rattle.rfc4180.specs.declared.Fields.{Fields}
+use Rattle.rfc4180.specs.Answers.{counted}
 use Rattle.rfc4180.specs.Number.{numbers, leading, capped}
-use Rattle.rfc4180.specs.Answers.{fields_answer}
 use Rattle.rfc4180.proofs.Reading.{leading_all, capped_small, answered_numbers}
 use Rattle.floor.specs.declared.Reason.{Reason}
 use Rattle.floor.specs.declared.Reason.TheVariants.{Layout, Range, RoadPair, Limit}
 use Rattle.floor.specs.declared.Table.TheVariants.{Roads}
 use Rattle.floor.specs.declared.Refusal.{Refusal}
-use Rattle.floor.specs.Refusal.{Judged, refused, accepted, ◌>>◌, need, next}
-use Rattle.floor.specs.Plan.{Road, joined}
+use Rattle.floor.specs.Refusal.{Judged, ◌>>◌, need, next}
+use Rattle.floor.specs.Plan.{joined}
+use Rattle.floor.specs.declared.Road.{Road}
 use Rattle.floor.specs.Roads.{cell_range, road_ranges, road}
-use Rattle.tables.specs.declared.RoadRead.{RoadRead}
 use Rattle.tables.specs.Arrays.{road_numbers, roads_in}
-use Rattle.tables.specs.Reading.{road_read}
+use Rattle.tables.specs.Reading.{road_read, road_of}
 use Rattle.floor.proofs.Judging.{pass, stop, got, lacks, then_accepted, and_given_accepted}
 use Rattle.tables.proofs.Turns.{Says, says_need, says_given}
-
--- the road of four numbers
-abbrev pub road_of : List ℕ → Road
-road_of ns = record { from = get_or ns 0 0; to = get_or ns 1 0; length = get_or ns 2 0; margin = get_or ns 3 0 }
 
 -- the tests after the ranges
 abbrev pair_tests : List Road → Road → Judged Road
 pair_tests before d = do
   need (not (eqb d.from d.to) && not (joined before d.from d.to)) RoadPair Roads (next before)
   need (leb (next before) 1024) Limit Roads (next before)
-  accepted d
+  Ok d
 
 abbrev pub at_next : List Road → Reason → Refusal
 at_next before why = record { reason = why; table = Roads; row = next before }
@@ -52,71 +48,71 @@ quad a b l m = record { from = a; to = b; length = l; margin = m }
 
 module _ (fs : List (List ℕ)) where
   -- a field that is no number
-  pub read_malformed : numbers fs ≡ none → RoadRead.Refused Layout ≡ road_read (numbers fs)
+  pub read_malformed : numbers fs ≡ None → Err Layout ≡ road_read (numbers fs)
   unfolding road_read
   read_malformed e = rw e
 
-  module _ (ns : List ℕ) (e : numbers fs ≡ some ns) where
+  module _ (ns : List ℕ) (e : numbers fs ≡ Some ns) where
     -- not four numbers
-    read_count : (length ns ≡ 4 → ⊥) → RoadRead.Refused Layout ≡ road_read (numbers fs)
+    read_count : (length ns ≡ 4 → ⊥) → Err Layout ≡ road_read (numbers fs)
     unfolding road_read
     read_count h = rw (e, ne_eqb (length ns) 4 h)
 
     module _ (four : length ns ≡ 4) where
       -- out of their ranges
-      read_range : road_ranges (road_of ns) ≡ false → RoadRead.Refused Range ≡ road_read (numbers fs)
+      read_range : road_ranges (road_of ns) ≡ false → Err Range ≡ road_read (numbers fs)
       unfolding road_read
       read_range h = rw (e, eq-eqb (length ns) 4 four, h)
 
       -- in their ranges
-      read_four : road_ranges (road_of ns) ≡ true → RoadRead.Numbers (get_or ns 0 0) (get_or ns 1 0) (get_or ns 2 0) (get_or ns 3 0) ≡ road_read (numbers fs)
+      read_four : road_ranges (road_of ns) ≡ true → Ok (road_of ns) ≡ road_read (numbers fs)
       unfolding road_read
       read_four h = rw (e, eq-eqb (length ns) 4 four, h)
 
 -- ---- the record
 
 -- what is said of a record's numbers
-numbers_said : RoadRead → Option Road
-numbers_said (RoadRead.Numbers a b l m) = some (quad a b l m)
-numbers_said (RoadRead.Refused why) = none
+numbers_said : Result Road Reason → Option Road
+numbers_said (Ok d) = Some d
+numbers_said (Err why) = None
 
-refusal_said : Reason → RoadRead → Reason
-refusal_said other (RoadRead.Numbers a b l m) = other
-refusal_said other (RoadRead.Refused why) = why
+refusal_said : Reason → Result Road Reason → Reason
+refusal_said other (Ok d) = other
+refusal_said other (Err why) = why
 
 module _ (before : List Road) (r : List ℕ) where
   -- a record without a road's numbers
-  pub road_unread : (why : Reason) → RoadRead.Refused why ≡ road_read (numbers (fields r)) → road before r ≡ refused (at_next before why)
+  pub road_unread : (why : Reason) → Err why ≡ road_read (numbers (fields r)) → road before r ≡ Err (at_next before why)
   unfolding road road_read numbers_said refusal_said
   road_unread why e = by (numbers (fields r)) refl e
     where
-      by : (o : Option (List ℕ)) → numbers (fields r) ≡ o → RoadRead.Refused why ≡ road_read o → road before r ≡ refused (at_next before why)
-      by none f q = lacks (numbers (fields r)) Layout Roads (next before) _ f ∙ ap (λ (x : Reason). refused (at_next before x)) (ap (refusal_said Layout) (sym q))
-      by (some ns) f q = cases (eqb (length ns) 4) (road_ranges (road_of ns)) refl refl q
+      by : (o : Option (List ℕ)) → numbers (fields r) ≡ o → Err why ≡ road_read o → road before r ≡ Err (at_next before why)
+      by None f q = lacks (numbers (fields r)) Layout Roads (next before) _ f ∙ ap (λ (x : Reason). Err (at_next before x)) (ap (refusal_said Layout) (sym q))
+      by (Some ns) f q = cases (eqb (length ns) 4) (road_ranges (road_of ns)) refl refl q
         where
           cases : (t u : Bool) → eqb (length ns) 4 ≡ t → road_ranges (road_of ns) ≡ u
-              → RoadRead.Refused why ≡ cond t (cond u (RoadRead.Numbers (get_or ns 0 0) (get_or ns 1 0) (get_or ns 2 0) (get_or ns 3 0)) (RoadRead.Refused Range)) (RoadRead.Refused Layout)
-              → road before r ≡ refused (at_next before why)
+              → Err why ≡ cond t (cond u (Ok (road_of ns)) (Err Range)) (Err Layout)
+              → road before r ≡ Err (at_next before why)
           cases true true a b q = absurd (none-ne-some _ (ap numbers_said q))
           cases true false a b q =
               got (numbers (fields r)) Layout Roads (next before) _ ns f ∙ pass (eqb (length ns) 4) Layout Roads (next before) _ a
-              ∙ stop (road_ranges (road_of ns)) Range Roads (next before) _ b ∙ ap (λ (x : Reason). refused (at_next before x)) (ap (refusal_said Layout) (sym q))
+              ∙ stop (road_ranges (road_of ns)) Range Roads (next before) _ b ∙ ap (λ (x : Reason). Err (at_next before x)) (ap (refusal_said Layout) (sym q))
           cases false u a b q =
               got (numbers (fields r)) Layout Roads (next before) _ ns f ∙ stop (eqb (length ns) 4) Layout Roads (next before) _ a
-              ∙ ap (λ (x : Reason). refused (at_next before x)) (ap (refusal_said Layout) (sym q))
+              ∙ ap (λ (x : Reason). Err (at_next before x)) (ap (refusal_said Layout) (sym q))
 
-  module _ (a b l m : ℕ) (e : RoadRead.Numbers a b l m ≡ road_read (numbers (fields r))) where
+  module _ (a b l m : ℕ) (e : Ok (quad a b l m) ≡ road_read (numbers (fields r))) where
     -- a record with them
     road_given : road before r ≡ pair_tests before (quad a b l m)
     unfolding road road_read numbers_said
     road_given = by (numbers (fields r)) refl e
       where
-        by : (o : Option (List ℕ)) → numbers (fields r) ≡ o → RoadRead.Numbers a b l m ≡ road_read o → road before r ≡ pair_tests before (quad a b l m)
-        by none f q = absurd (some-ne-none _ (ap numbers_said q))
-        by (some ns) f q = cases (eqb (length ns) 4) (road_ranges (road_of ns)) refl refl q
+        by : (o : Option (List ℕ)) → numbers (fields r) ≡ o → Ok (quad a b l m) ≡ road_read o → road before r ≡ pair_tests before (quad a b l m)
+        by None f q = absurd (some-ne-none _ (ap numbers_said q))
+        by (Some ns) f q = cases (eqb (length ns) 4) (road_ranges (road_of ns)) refl refl q
           where
             cases : (t u : Bool) → eqb (length ns) 4 ≡ t → road_ranges (road_of ns) ≡ u
-                → RoadRead.Numbers a b l m ≡ cond t (cond u (RoadRead.Numbers (get_or ns 0 0) (get_or ns 1 0) (get_or ns 2 0) (get_or ns 3 0)) (RoadRead.Refused Range)) (RoadRead.Refused Layout)
+                → Ok (quad a b l m) ≡ cond t (cond u (Ok (road_of ns)) (Err Range)) (Err Layout)
                 → road before r ≡ pair_tests before (quad a b l m)
             cases true true g h q =
                 got (numbers (fields r)) Layout Roads (next before) _ ns f ∙ pass (eqb (length ns) 4) Layout Roads (next before) _ g
@@ -125,7 +121,7 @@ module _ (before : List Road) (r : List ℕ) where
             cases false u g h q = absurd (some-ne-none _ (ap numbers_said q))
 
     -- "a road from a cell to itself"
-    pub road_self : a ≡ b → road before r ≡ refused (at_next before RoadPair)
+    pub road_self : a ≡ b → road before r ≡ Err (at_next before RoadPair)
     road_self h = road_given ∙ stop _ RoadPair Roads (next before) _ (ap (λ (x : Bool). not x && not (joined before a b)) (eq-eqb a b h))
 
     module _ (other : a ≡ b → ⊥) {t : Bool} (j : t ≡ joined before a b) where
@@ -133,22 +129,22 @@ module _ (before : List Road) (r : List ℕ) where
       pair = ap (λ (x : Bool). not x && not (joined before a b)) (ne_eqb a b other) ∙ ap not (sym j)
 
       -- "a second road for a pair"
-      pub road_second : t ≡ true → road before r ≡ refused (at_next before RoadPair)
+      pub road_second : t ≡ true → road before r ≡ Err (at_next before RoadPair)
       road_second h = road_given ∙ stop _ RoadPair Roads (next before) _ (pair ∙ ap not h)
 
       module _ (first : t ≡ false) where
         -- one too many
-        pub road_over : 1024 ≤ length before → road before r ≡ refused (at_next before Limit)
+        pub road_over : 1024 ≤ length before → road before r ≡ Err (at_next before Limit)
         unfolding next
         road_over h = road_given ∙ pass _ RoadPair Roads (next before) _ (pair ∙ ap not first) ∙ stop _ Limit Roads (next before) _ (lt-leb (suc (length before)) 1024 (omega arith))
 
         -- a road
-        pub road_taken : length before < 1024 → road before r ≡ accepted (quad a b l m)
+        pub road_taken : length before < 1024 → road before r ≡ Ok (quad a b l m)
         unfolding next
         road_taken h = road_given ∙ pass _ RoadPair Roads (next before) _ (pair ∙ ap not first) ∙ pass _ Limit Roads (next before) _ (le-leb (suc (length before)) 1024 (omega arith))
 
 -- a record that is taken is at most the 1,024th
-pub road_fits : (before : List Road) (r : List ℕ) (d : Road) → road before r ≡ accepted d → suc (length before) ≤ 1024
+pub road_fits : (before : List Road) (r : List ℕ) (d : Road) → road before r ≡ Ok d → suc (length before) ≤ 1024
 unfolding road next
 road_fits before r d e =
     let (ns, _, e1) = and_given_accepted (numbers (fields r)) Layout Roads _ _ d e in
@@ -230,7 +226,7 @@ ranges_broken ns h = fails (road_ranges (road_of ns)) broken
 -- ---- the array
 
 -- an array that takes all numbers of a record
-read_whole : (fs : List (List ℕ)) (ns v : List ℕ) → numbers fs ≡ some ns → length ns ≡ length v
+read_whole : (fs : List (List ℕ)) (ns v : List ℕ) → numbers fs ≡ Some ns → length ns ≡ length v
     → written (take (length v) (map capped (leading fs))) v ≡ map capped ns
 unfolding written
 read_whole fs ns v e h =
@@ -240,23 +236,19 @@ read_whole fs ns v e h =
     ap (λ (x : List ℕ). take (length v) (map capped x)) (leading_all fs ns e) ∙ ap (λ (k : ℕ). take k m) (sym lm) ∙ take-length m in
     ap (λ (x : List ℕ). x ++ drop (length x) v) front ∙ ap (λ (x : List ℕ). m ++ x) (drop_of_length-le v {i = length m} (omega arith)) ∙ append-nil m
 
--- the numbers of a road, as they are answered
-abbrev said_of : Road → RoadRead
-said_of d = RoadRead.Numbers d.from d.to d.length d.margin
-
 -- a record of k numbers, four of them in an array
-module _ (row v : List ℕ) (k most : ℕ) (e : Fields.Numbers k most ≡ fields_answer (numbers (fields row)))
+module _ (row v : List ℕ) (k most : ℕ) (e : Some (record { count = k; greatest = most }) ≡ option_map counted (numbers (fields row)))
     (held : v ≡ written (take 4 (map capped (leading (fields row)))) (0 ∷ 0 ∷ 0 ∷ 0 ∷ [])) where
   -- not four
-  pub read_other : (k ≡ 4 → ⊥) → RoadRead.Refused Layout ≡ road_read (numbers (fields row))
+  pub read_other : (k ≡ 4 → ⊥) → Err Layout ≡ road_read (numbers (fields row))
   read_other h = let (ns, f, n, _) = answered_numbers _ k most e in read_count (fields row) ns f (λ q. h (n ∙ q))
 
   module _ (four : k ≡ 4) {t : Bool} (tested : t ≡ road_ranges (road_of v)) where
-    capped_there : (ns : List ℕ) → numbers (fields row) ≡ some ns → length ns ≡ 4 → v ≡ map capped ns
+    capped_there : (ns : List ℕ) → numbers (fields row) ≡ Some ns → length ns ≡ 4 → v ≡ map capped ns
     capped_there ns f l = held ∙ read_whole (fields row) ns (0 ∷ 0 ∷ 0 ∷ 0 ∷ []) f l
 
     -- out of their ranges
-    pub read_out : not t ≡ true → RoadRead.Refused Range ≡ road_read (numbers (fields row))
+    pub read_out : not t ≡ true → Err Range ≡ road_read (numbers (fields row))
     read_out h =
         let (ns, f, n, _) = answered_numbers _ k most e in
         let l : length ns ≡ 4 = sym n ∙ four in
@@ -264,14 +256,14 @@ module _ (row v : List ℕ) (k most : ℕ) (e : Fields.Numbers k most ≡ fields
         read_range (fields row) ns f l (ranges_broken ns broken)
 
     -- in their ranges
-    pub read_in : not t ≡ false → RoadRead.Numbers (get_or v 0 0) (get_or v 1 0) (get_or v 2 0) (get_or v 3 0) ≡ road_read (numbers (fields row))
+    pub read_in : not t ≡ false → Ok (road_of v) ≡ road_read (numbers (fields row))
     read_in h =
         let (ns, f, n, _) = answered_numbers _ k most e in
         let l : length ns ≡ 4 = sym n ∙ four in
         let there : v ≡ map capped ns = capped_there ns f l in
         let kept : road_ranges (road_of v) ≡ true = sym tested ∙ not-false t h in
         let same : road_of v ≡ road_of ns = ap road_of there ∙ ranges_exact ns (ap (λ (x : List ℕ). road_ranges (road_of x)) (sym there) ∙ kept) in
-        ap said_of same ∙ read_four (fields row) ns f l (ap road_ranges (sym same) ∙ kept)
+        ap Ok same ∙ read_four (fields row) ns f l (ap road_ranges (sym same) ∙ kept)
 
 -- the roads whose numbers were stored are those that are there
 by_road : (ds : List Road) (z : List ℕ) → roads_in (length ds) (flat_map road_numbers ds ++ z) ≡ ds

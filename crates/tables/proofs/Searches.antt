@@ -1,16 +1,17 @@
 -- Searches in arrays: the steps of a path, and the paths of an array, passed one after the other and held against roads.
 -- Assumes nothing.
+use Rattle.std.specs.Prelude.{None, Some}
 use Prim.Native.Nat.{ℕ, zero, suc, ◌+◌, ◌-◌, ◌≤◌, ◌<◌}
 use native.Mathlib.Omega.{arith}
 use mathlib.Core.Path.{◌≡◌, refl, sym, ◌∙◌}
 use mathlib.Core.Bool.{Bool, true, false, not, ◌&&◌, ◌||◌, cond}
 use mathlib.Core.List.{List, [], ◌∷◌}
-use mathlib.Core.Option.{none, some}
 use borrow.Author.Tests.{eq-eqb, ne_eqb, not-true, not-false}
 use lib.Dec.{eqb}
 use lib.ListN.{length, take, drop, get_or, length-take, length-drop}
 use lib.Seq.{get_or-take, get_or-drop, drop-drop}
-use Rattle.floor.specs.Plan.{Road, joined}
+use Rattle.floor.specs.Plan.{joined}
+use Rattle.floor.specs.declared.Road.{Road}
 use Rattle.floor.specs.Paths.{on_roads, off_road}
 use Rattle.collisions.specs.Meetings.{paths_in}
 pub use Rattle.collisions.proofs.Searches.{both_fail, path_fits}
@@ -83,7 +84,7 @@ module _ (rs : List Road) (cells : List ℕ) (at w : ℕ) where
 -- the path at a place of an array, tested, and those after it
 off_road_next : (rs : List Road) (n w i at : ℕ) (s : List ℕ) (t : Bool) → i < n → on_roads rs (take w (drop at s)) ≡ t
     → off_road rs (i + 1) (paths_in (n - i) w (drop at s))
-    ≡ cond t (off_road rs (i + 1 + 1) (paths_in (n - (i + 1)) w (drop (at + w) s))) (some (i + 1))
+    ≡ cond t (off_road rs (i + 1 + 1) (paths_in (n - (i + 1)) w (drop (at + w) s))) (Some (i + 1))
 unfolding off_road paths_in
 off_road_next rs n w i at s t h e =
     let l : n - i ≡ suc (n - (i + 1)) = omega arith in
@@ -97,10 +98,10 @@ path_on rs n w i at s {r} h e t = off_road_next rs n w i at s true h (sym e ∙ 
 
 -- one that leaves them is found
 pub path_off : (rs : List Road) (n w i at : ℕ) (s : List ℕ) {r : Bool} → i < n → r ≡ on_roads rs (take w (drop at s)) → not r ≡ true
-    → off_road rs (i + 1) (paths_in (n - i) w (drop at s)) ≡ some (i + 1)
+    → off_road rs (i + 1) (paths_in (n - i) w (drop at s)) ≡ Some (i + 1)
 path_off rs n w i at s {r} h e t = off_road_next rs n w i at s false h (sym e ∙ not-true r t)
 
 -- after the last path
-pub paths_past : (rs : List Road) (n w i at : ℕ) (s : List ℕ) → n ≤ i → off_road rs (i + 1) (paths_in (n - i) w (drop at s)) ≡ none
+pub paths_past : (rs : List Road) (n w i at : ℕ) (s : List ℕ) → n ≤ i → off_road rs (i + 1) (paths_in (n - i) w (drop at s)) ≡ None
 unfolding off_road paths_in
 paths_past rs n w i at s h = let e : n - i ≡ 0 = omega arith in rw e

@@ -1,36 +1,42 @@
 -- The three tables read one after the other, as the code does: what each way out gives. Assumes nothing.
-use Prim.Native.Nat.{ℕ, ◌≤◌, ◌<◌}
+use Rattle.std.specs.Prelude.{Option, None, Some, Err, Ok, Result, is_ok}
+use Prim.Native.Nat.{ℕ, ◌≤◌}
 use native.Mathlib.Omega.{arith}
 use mathlib.Core.Path.{◌≡◌, refl, ap, sym, ◌∙◌, subst}
 use mathlib.Core.List.{List, [], ◌∷◌, flat_map}
-use mathlib.Core.Bool.{Bool, true, false, true≢false, ◌&&◌, and-false}
-use mathlib.Core.Logic.{◌≢◌, ◌⊎◌, inl, inr}
-use mathlib.Core.Option.{Option, none, some, some-injective, some-ne-none, none-ne-some}
+use mathlib.Core.Bool.{Bool, true, false, true≢false, ◌&&◌}
 use lib.Dec.{leb, eqb}
 use lib.ListN.{length, replicate, length-append, length-replicate}
-use borrow.Author.Tests.{le-leb, lt-leb, eq-eqb, ne_eqb}
+use borrow.Author.Tests.{le-leb, leb-true, eq-eqb, eqb-true}
+use Rattle.laws.proofs.Options.{some-injective, some-ne-none, none-ne-some}
 use Rattle.rfc4180.specs.Text.{bytes}
 use Rattle.rfc4180.specs.Records.{records}
 use Rattle.words.specs.Words.{padded}
 use Rattle.floor.specs.declared.Reason.TheVariants.{OffRoad, SameCell, Exchange}
 use Rattle.floor.specs.declared.Table.TheVariants.{Roads}
 use Rattle.floor.specs.declared.Refusal.{Refusal}
-use Rattle.tables.specs.declared.Reading.{Reading}
-use Rattle.floor.specs.Refusal.{Judged, refused, accepted, ◌>>=◌, ◌>>◌, unless_found, within_bytes, after_first_line}
-use Rattle.floor.specs.Plan.{Road, Cart, Plan}
+use Rattle.floor.specs.Refusal.{Judged, ◌>>=◌, ◌>>◌, unless_found, within_bytes, after_first_line}
+use Rattle.floor.specs.Plan.{Plan}
+use Rattle.floor.specs.declared.Road.{Road}
+use Rattle.floor.specs.declared.Cart.{Cart}
 use Rattle.floor.specs.Roads.{road, read_roads}
 use Rattle.floor.specs.Carts.{read_carts}
-use Rattle.floor.specs.Paths.{read_paths, steps, off_road, first_same_cell, first_exchange}
+use Rattle.floor.specs.Paths.{read_paths, off_road, first_same_cell, first_exchange}
 use Rattle.floor.specs.Tables.{Tables, read_tables}
 use Rattle.tables.specs.Arrays.{road_numbers, cart_numbers, path_cells}
-use Rattle.tables.specs.Index.{Indexed, index_room, IndexLeft}
-use Rattle.tables.specs.Reading.{apart, read_apart, Arrays, room, Outcome, read_answer, zeros, numbers_of, arrays_judged, reading, read_into, roads_read}
+use Rattle.tables.specs.Index.{Indexed, Linked, SameIndex, IndexCleared, index_room, IndexLeft}
+use Rattle.tables.specs.declared.lent.PlanArrays.{PlanArrays}
+use Rattle.tables.specs.Lending.{SameArrays}
+use Rattle.tables.specs.declared.lent.RoadIndex.{RoadIndex}
+use Rattle.tables.specs.declared.Size.{Size}
+use Rattle.tables.specs.declared.ReadError.{ReadError}
+use Rattle.tables.specs.Reading.{size_of, size_read, apart, read_apart, Arrays, room, Outcome, read_answer, zeros, numbers_of, arrays_judged, reading, roads_read, Answer, AsLong}
 use Rattle.floor.proofs.Judging.{refused_not_accepted, accepted_same, bind_accepted, none_found_accepted, goes_on, ends, kept_in_order}
 use Rattle.tables.proofs.RoadRecords.{road_fits}
 use Rattle.tables.proofs.Indexes.{none_indexed}
 
 -- "1,024 roads": no more are taken
-pub few_roads : (b : List ℕ) (ds : List Road) → read_roads b ≡ accepted ds → length ds ≤ 1024
+pub few_roads : (b : List ℕ) (ds : List Road) → read_roads b ≡ Ok ds → length ds ≤ 1024
 unfolding read_roads
 few_roads b ds e =
     let (_, _, e1) = bind_accepted (within_bytes Roads b) _ ds e in
@@ -39,7 +45,7 @@ few_roads b ds e =
     (λ before r d h one. let few = road_fits before r d one in omega (arith, few, length-append before (d ∷ []))) rs [] ds (omega arith) e2
 
 -- of all tables
-pub plan_roads : (ts : Tables) (p : Plan) → read_tables ts ≡ accepted p → length p.roads ≤ 1024
+pub plan_roads : (ts : Tables) (p : Plan) → read_tables ts ≡ Ok p → length p.roads ≤ 1024
 unfolding read_tables
 plan_roads ts p e =
     let (rs, er, e1) = bind_accepted (read_roads ts.roads) _ p e in
@@ -56,272 +62,284 @@ plan_of rs cs ps = record { roads = rs; carts = cs; paths = ps }
 
 -- 7, 8 and 9, and then the plan
 apart_then : (rs : List Road) (cs : List Cart) (ps : List (List ℕ)) →
-    (unless_found (off_road rs 1 ps) OffRoad >> (unless_found (first_same_cell ps) SameCell >> (unless_found (first_exchange ps) Exchange >> accepted (plan_of rs cs ps))))
-    ≡ (apart rs ps >>= λ qs. accepted (plan_of rs cs qs))
+    (unless_found (off_road rs 1 ps) OffRoad >> (unless_found (first_same_cell ps) SameCell >> (unless_found (first_exchange ps) Exchange >> Ok (plan_of rs cs ps))))
+    ≡ (apart rs ps >>= λ qs. Ok (plan_of rs cs qs))
 unfolding apart ◌>>=◌ unless_found
 apart_then rs cs ps = by (off_road rs 1 ps) (first_same_cell ps) (first_exchange ps)
   where
     by : (a b c : Option ℕ) →
-        (unless_found a OffRoad >> (unless_found b SameCell >> (unless_found c Exchange >> accepted (plan_of rs cs ps))))
-        ≡ ((unless_found a OffRoad >> (unless_found b SameCell >> (unless_found c Exchange >> accepted ps))) >>= λ qs. accepted (plan_of rs cs qs))
-    by (some i) b c = refl
-    by none (some i) c = refl
-    by none none (some i) = refl
-    by none none none = refl
+        (unless_found a OffRoad >> (unless_found b SameCell >> (unless_found c Exchange >> Ok (plan_of rs cs ps))))
+        ≡ ((unless_found a OffRoad >> (unless_found b SameCell >> (unless_found c Exchange >> Ok ps))) >>= λ qs. Ok (plan_of rs cs qs))
+    by (Some i) b c = refl
+    by None (Some i) c = refl
+    by None None (Some i) = refl
+    by None None None = refl
 
 module _ (ts : Tables) where
   -- the roads are refused
-  pub roads_refused : (r : Refusal) → read_roads ts.roads ≡ refused r → read_tables ts ≡ refused r
+  pub roads_refused : (r : Refusal) → read_roads ts.roads ≡ Err r → read_tables ts ≡ Err r
   unfolding read_tables
   roads_refused r e = ends (read_roads ts.roads) _ r e
 
-  module _ (rs : List Road) (er : read_roads ts.roads ≡ accepted rs) where
+  module _ (rs : List Road) (er : read_roads ts.roads ≡ Ok rs) where
     -- the carts are refused
-    pub carts_refused : (r : Refusal) → read_carts ts.carts ≡ refused r → read_tables ts ≡ refused r
+    pub carts_refused : (r : Refusal) → read_carts ts.carts ≡ Err r → read_tables ts ≡ Err r
     unfolding read_tables
     carts_refused r e = goes_on (read_roads ts.roads) _ rs er ∙ ends (read_carts ts.carts) _ r e
 
-    module _ (cs : List Cart) (ec : read_carts ts.carts ≡ accepted cs) where
+    module _ (cs : List Cart) (ec : read_carts ts.carts ≡ Ok cs) where
       -- the paths say the rest
-      tables_are : read_tables ts ≡ (read_apart rs (length cs) ts.paths >>= λ qs. accepted (plan_of rs cs qs))
+      tables_are : read_tables ts ≡ (read_apart rs (length cs) ts.paths >>= λ qs. Ok (plan_of rs cs qs))
       unfolding read_tables read_apart ◌>>=◌
       tables_are =
           goes_on (read_roads ts.roads) _ rs er ∙ goes_on (read_carts ts.carts) _ cs ec ∙ by (read_paths (length cs) ts.paths)
         where
           by : (j : Judged (List (List ℕ))) →
-              (j >>= λ ps. unless_found (off_road rs 1 ps) OffRoad >> (unless_found (first_same_cell ps) SameCell >> (unless_found (first_exchange ps) Exchange >> accepted (plan_of rs cs ps))))
-              ≡ ((j >>= apart rs) >>= λ qs. accepted (plan_of rs cs qs))
-          by (refused r) = refl
-          by (accepted ps) = apart_then rs cs ps
+              (j >>= λ ps. unless_found (off_road rs 1 ps) OffRoad >> (unless_found (first_same_cell ps) SameCell >> (unless_found (first_exchange ps) Exchange >> Ok (plan_of rs cs ps))))
+              ≡ ((j >>= apart rs) >>= λ qs. Ok (plan_of rs cs qs))
+          by (Err r) = refl
+          by (Ok ps) = apart_then rs cs ps
 
       -- they are refused
-      pub paths_are_refused : (r : Refusal) → read_apart rs (length cs) ts.paths ≡ refused r → read_tables ts ≡ refused r
+      pub paths_are_refused : (r : Refusal) → read_apart rs (length cs) ts.paths ≡ Err r → read_tables ts ≡ Err r
       paths_are_refused r e = tables_are ∙ ends (read_apart rs (length cs) ts.paths) _ r e
 
       -- they are not
-      pub all_read : (ps : List (List ℕ)) → read_apart rs (length cs) ts.paths ≡ accepted ps → read_tables ts ≡ accepted (plan_of rs cs ps)
+      pub all_read : (ps : List (List ℕ)) → read_apart rs (length cs) ts.paths ≡ Ok ps → read_tables ts ≡ Ok (plan_of rs cs ps)
       all_read ps e = tables_are ∙ goes_on (read_apart rs (length cs) ts.paths) _ ps e
 
--- the answer, and each array and the index where there is a plan
-abbrev pub EachEnd : Judged Plan → ℕ → ℕ → ℕ → Reading → List ℕ → List ℕ → List ℕ → List ℕ → List ℕ → Type 0
-EachEnd j a b c r edges speeds cells heads nexts =
-    (r ≡ read_answer j)
-    × (((p : Plan) → j ≡ accepted p → edges ≡ padded a (flat_map road_numbers p.roads))
-    × (((p : Plan) → j ≡ accepted p → speeds ≡ padded b (flat_map cart_numbers p.carts))
-    × (((p : Plan) → j ≡ accepted p → cells ≡ padded c (path_cells p.paths)) × ((p : Plan) → j ≡ accepted p → Indexed (length p.roads) edges heads nexts))))
+-- the answer, and where there is a plan the arrays and the index
+module _ (j : Judged Plan) (a b : Arrays) (i : RoadIndex) where
+  abbrev pub EachEnd : Judged Size → Type 0
+  EachEnd r = (r ≡ size_read j) × (((p : Plan) → j ≡ Ok p → b ≡ numbers_of a p) × ((p : Plan) → j ≡ Ok p → Linked (length p.roads) b.roads i))
 
--- of a refusal
-pub each_refused : (j : Judged Plan) (a b c : ℕ) (edges speeds cells heads nexts : List ℕ) (r : Refusal) → j ≡ refused r
-    → EachEnd j a b c (Reading.Refused r) edges speeds cells heads nexts
-unfolding read_answer
-each_refused j a b c edges speeds cells heads nexts r e =
-    let no : (p : Plan) → j ≡ accepted p → ⊥ = λ p f. refused_not_accepted r p (sym e ∙ f) in
-    (sym (ap read_answer e), (λ p f. absurd (no p f), (λ p f. absurd (no p f), (λ p f. absurd (no p f), λ p f. absurd (no p f)))))
+  -- of a refusal
+  pub each_refused : (r : Refusal) → j ≡ Err r → EachEnd (Err r)
+  unfolding size_read
+  each_refused r e =
+      let no : (p : Plan) → j ≡ Ok p → ⊥ = λ p f. refused_not_accepted r p (sym e ∙ f) in
+      (sym (ap size_read e), (λ p f. absurd (no p f), λ p f. absurd (no p f)))
 
--- of a plan
-pub each_read : (j : Judged Plan) (a b c : ℕ) (edges speeds cells heads nexts : List ℕ) (p : Plan) → j ≡ accepted p → (r : Reading) → r ≡ read_answer (accepted p)
-    → edges ≡ padded a (flat_map road_numbers p.roads) → speeds ≡ padded b (flat_map cart_numbers p.carts) → cells ≡ padded c (path_cells p.paths)
-    → Indexed (length p.roads) edges heads nexts → EachEnd j a b c r edges speeds cells heads nexts
-each_read j a b c edges speeds cells heads nexts p e r said x y z k = (
-  said ∙ sym (ap read_answer e),
-  (
-    λ q f. x ∙ ap (λ (v : Plan). padded a (flat_map road_numbers v.roads)) (accepted_same p q (sym e ∙ f)),
+  -- of a plan
+  pub each_read : (p : Plan) → j ≡ Ok p → (r : Judged Size) → r ≡ size_read (Ok p) → b ≡ numbers_of a p → Linked (length p.roads) b.roads i → EachEnd r
+  each_read p e r said x k = (
+    said ∙ sym (ap size_read e),
     (
-      λ q f. y ∙ ap (λ (v : Plan). padded b (flat_map cart_numbers v.carts)) (accepted_same p q (sym e ∙ f)),
-      (
-        λ q f. z ∙ ap (λ (v : Plan). padded c (path_cells v.paths)) (accepted_same p q (sym e ∙ f)),
-        λ q f. subst (λ (v : Plan). Indexed (length v.roads) edges heads nexts) (accepted_same p q (sym e ∙ f)) k,
-      ),
+      λ q f. x ∙ ap (numbers_of a) (accepted_same p q (sym e ∙ f)),
+      λ q f. subst (λ (v : Plan). Linked (length v.roads) b.roads i) (accepted_same p q (sym e ∙ f)) k,
     ),
-  ),
-)
+  )
 
 -- ---- the answers, read back
 
--- what an answer holds
-answered : Reading → Option Refusal
-answered (Reading.Read n m w) = none
-answered Reading.TooShort = none
-answered (Reading.Refused r) = some r
+-- the plan, or the refusal, that an answer tells of
+told : Answer → Result Size (Option Refusal)
+told (Ok n) = Ok n
+told (Err ReadError.TooShort) = Err None
+told (Err (ReadError.Refused r)) = Err (Some r)
 
--- whether it tells of a plan
-tells : Reading → Bool
-tells (Reading.Read n m w) = true
-tells Reading.TooShort = false
-tells (Reading.Refused r) = false
+refusal_told : Result Size (Option Refusal) → Option Refusal
+refusal_told (Ok n) = None
+refusal_told (Err o) = o
 
-pub answer_refused : (j : Judged Plan) (r : Refusal) → Reading.Refused r ≡ read_answer j → j ≡ refused r
-unfolding read_answer answered
-answer_refused (refused q) r e = ap refused (some-injective _ _ (sym (ap answered e)))
-answer_refused (accepted p) r e = absurd (some-ne-none _ (ap answered e))
+size_told : Answer → Option Size
+size_told (Ok n) = Some n
+size_told (Err e) = None
 
-pub answer_read : (j : Judged Plan) (n m w : ℕ) → Reading.Read n m w ≡ read_answer j → (p : Plan) × (j ≡ accepted p)
-unfolding read_answer tells
-answer_read (refused q) n m w e = absurd (true≢false (ap tells e))
-answer_read (accepted p) n m w e = (p, refl)
+pub answer_refused : (j : Judged Plan) (r : Refusal) → Err (ReadError.Refused r) ≡ read_answer j → j ≡ Err r
+unfolding read_answer told refusal_told
+answer_refused (Err q) r e = ap Err (some-injective _ _ (sym (ap (λ (x : Answer). refusal_told (told x)) e)))
+answer_refused (Ok p) r e = absurd (some-ne-none _ (ap (λ (x : Answer). refusal_told (told x)) e))
 
--- how many roads, carts and steps it tells of
-told : Reading → ℕ × (ℕ × ℕ)
-told (Reading.Read n m w) = (n, (m, w))
-told Reading.TooShort = (0, (0, 0))
-told (Reading.Refused r) = (0, (0, 0))
-
--- they are the plan's
-pub answer_numbers : (p : Plan) (n m w : ℕ) → Reading.Read n m w ≡ read_answer (accepted p)
-    → (n ≡ length p.roads) × ((m ≡ length p.carts) × (w ≡ steps p.paths))
-unfolding read_answer told
-answer_numbers p n m w e = (ap (λ (r : Reading). (told r).0) e, (ap (λ (r : Reading). (told r).1.0) e, ap (λ (r : Reading). (told r).1.1) e))
-
--- only one that tells of a plan has an index to tell of
-pub short_not_read : (n m w : ℕ) → Reading.TooShort ≡ Reading.Read n m w → ⊥
-unfolding tells
-short_not_read n m w e = true≢false (sym (ap tells e))
-
-pub refused_not_read : (r : Refusal) (n m w : ℕ) → Reading.Refused r ≡ Reading.Read n m w → ⊥
-unfolding tells
-refused_not_read r n m w e = true≢false (sym (ap tells e))
-
--- it is that of as many roads as it tells of
-pub index_read : (p : Plan) (n m w : ℕ) (s heads nexts : List ℕ) → Reading.Read n m w ≡ read_answer (accepted p) → Indexed (length p.roads) s heads nexts
-    → (i j v : ℕ) → Reading.Read n m w ≡ Reading.Read i j v → Indexed i s heads nexts
-unfolding read_answer told
-index_read p n m w s heads nexts e k i j v f = subst (λ (x : ℕ). Indexed x s heads nexts) (ap (λ (r : Reading). (told r).0) (sym e ∙ f)) k
+pub answer_read : (j : Judged Plan) (n : Size) → Ok n ≡ read_answer j → (p : Plan) × (j ≡ Ok p) × (n ≡ size_of p)
+unfolding read_answer size_told
+answer_read (Err q) n e = absurd (some-ne-none _ (ap size_told e))
+answer_read (Ok p) n e = (p, refl, some-injective _ _ (ap size_told e))
 
 -- a judgement never says that an array is too short
-pub answer_short : (j : Judged Plan) → Reading.TooShort ≡ read_answer j → ⊥
-unfolding read_answer answered tells
-answer_short (refused q) e = none-ne-some _ (ap answered e)
-answer_short (accepted p) e = true≢false (sym (ap tells e))
+pub answer_short : (j : Judged Plan) → Err ReadError.TooShort ≡ read_answer j → ⊥
+unfolding read_answer told refusal_told size_told
+answer_short (Err q) e = none-ne-some _ (ap (λ (x : Answer). refusal_told (told x)) e)
+answer_short (Ok p) e = none-ne-some _ (ap size_told e)
+
+-- only an answer that tells of a plan has an index to tell of
+pub error_not_read : (e : ReadError) (n : Size) → ◌≡◌ {A = Answer} (Err e) (Ok n) → ⊥
+unfolding size_told
+error_not_read e n q = none-ne-some _ (ap size_told q)
+
+-- it is that of as many roads as it tells of
+pub index_read : (n : Size) (s : List ℕ) (i : RoadIndex) → Linked n.roads s i → (m : Size) → ◌≡◌ {A = Answer} (Ok n) (Ok m) → Linked m.roads s i
+unfolding size_told
+index_read n s i k m e = subst (λ (x : Size). Linked x.roads s i) (some-injective _ _ (ap size_told e)) k
+
+-- the plan whose size is said, and what the reader answers then
+size_said : Judged Size → Option Size
+size_said (Ok n) = Some n
+size_said (Err r) = None
+
+refusal_said : Judged Size → Option Refusal
+refusal_said (Ok n) = None
+refusal_said (Err r) = Some r
+
+pub size_there : (j : Judged Plan) (n : Size) → Ok n ≡ size_read j → (p : Plan) × (j ≡ Ok p) × (n ≡ size_of p)
+unfolding size_read size_said
+size_there (Err q) n e = absurd (some-ne-none _ (ap size_said e))
+size_there (Ok p) n e = (p, refl, some-injective _ _ (ap size_said e))
+
+pub size_refused : (j : Judged Plan) (r : Refusal) → Err r ≡ size_read j → j ≡ Err r
+unfolding size_read refusal_said
+size_refused (Err q) r e = ap Err (some-injective _ _ (sym (ap refusal_said e)))
+size_refused (Ok p) r e = absurd (some-ne-none _ (ap refusal_said e))
 
 -- ---- the arrays, all input
 
--- zeros are as many as there are places
-pub blank : (n : ℕ) (s : List ℕ) → s ≡ replicate n 0 → s ≡ replicate (length s) 0
-blank n s e = e ∙ ap (λ (k : ℕ). replicate k 0) (sym (ap (length {A = ℕ}) e ∙ length-replicate n 0))
+-- of arrays that are as long as others
+module _ (a b : Arrays) (long : AsLong a b) where
+  pub zeros_as : zeros b ≡ zeros a
+  unfolding zeros
+  zeros_as = rw (long.0, long.1, long.2)
 
--- the answer and the three arrays are those of `read_into`
-module _ (r c p e s k : List ℕ) where
-  abbrev pub Into : Reading → List ℕ → List ℕ → List ℕ → Type 0
-  Into answer edges speeds cells =
-      (answer ≡ (read_into r c p e s k).answer)
-      × ((edges ≡ (read_into r c p e s k).arrays.roads) × ((speeds ≡ (read_into r c p e s k).arrays.carts) × (cells ≡ (read_into r c p e s k).arrays.cells)))
+  pub numbers_as : (p : Plan) → numbers_of b p ≡ numbers_of a p
+  unfolding numbers_of
+  numbers_as p = rw (long.0, long.1, long.2)
 
-  -- and where a plan is read, the index is that of its roads
-  abbrev pub IntoIndexed : Reading → List ℕ → List ℕ → List ℕ → List ℕ → List ℕ → Type 0
-  IntoIndexed answer edges speeds cells heads nexts =
-      (answer ≡ (read_into r c p e s k).answer)
-      × ((edges ≡ (read_into r c p e s k).arrays.roads)
-      × ((speeds ≡ (read_into r c p e s k).arrays.carts)
-      × ((cells ≡ (read_into r c p e s k).arrays.cells) × ((n m w : ℕ) → answer ≡ Reading.Read n m w → Indexed n edges heads nexts))))
+  pub room_as : room b ≡ room a
+  unfolding room
+  room_as = rw (long.0, long.1, long.2)
 
-  pub with_index : (answer : Reading) (edges speeds cells heads nexts : List ℕ) → Into answer edges speeds cells
-      → ((n m w : ℕ) → answer ≡ Reading.Read n m w → Indexed n edges heads nexts) → IntoIndexed answer edges speeds cells heads nexts
-  with_index answer edges speeds cells heads nexts (a, (b, (d, f))) i = (a, (b, (d, (f, i))))
+-- cleared arrays are
+pub cleared_long : (a b : Arrays) → b ≡ zeros a → AsLong a b
+unfolding zeros
+cleared_long a b e = (
+  ap (λ (x : Arrays). length x.roads) e ∙ length-replicate {A = ℕ} (length a.roads) 0,
+  ap (λ (x : Arrays). length x.carts) e ∙ length-replicate {A = ℕ} (length a.carts) 0,
+  ap (λ (x : Arrays). length x.cells) e ∙ length-replicate {A = ℕ} (length a.cells) 0,
+)
 
-  abbrev pub ts : Tables
-  ts = record { roads = r; carts = c; paths = p }
+-- arrays are the same as themselves, and as what is the same as they are
+pub same_self : (a : PlanArrays) → SameArrays a a
+same_self a = record { edges = refl; speeds = refl; cells = refl; as_long = (refl, refl, refl) }
 
-  abbrev arrays : Arrays
-  arrays = record { roads = e; carts = s; cells = k }
+pub same_on : (a b d : PlanArrays) → SameArrays a b → SameArrays b d → SameArrays a d
+same_on a b d p q =
+    record {
+      edges = q.edges ∙ p.edges;
+      speeds = q.speeds ∙ p.speeds;
+      cells = q.cells ∙ p.cells;
+      as_long = (q.as_long.0 ∙ p.as_long.0, q.as_long.1 ∙ p.as_long.1, q.as_long.2 ∙ p.as_long.2);
+    }
 
-  -- an outcome, in four parts
-  parts : (o : Outcome) → read_into r c p e s k ≡ o → Into o.answer o.arrays.roads o.arrays.carts o.arrays.cells
-  parts o q = (
-    sym (ap (λ (x : Outcome). x.answer) q),
-    (sym (ap (λ (x : Outcome). x.arrays.roads) q), (sym (ap (λ (x : Outcome). x.arrays.carts) q), sym (ap (λ (x : Outcome). x.arrays.cells) q))),
-  )
+-- arrays of zeros are zeros each
+pub zeros_there : (a : Arrays) → a ≡ zeros a
+    → (a.roads ≡ replicate (length a.roads) 0) × (a.carts ≡ replicate (length a.carts) 0) × (a.cells ≡ replicate (length a.cells) 0)
+unfolding zeros
+zeros_there a e = (ap (λ (x : Arrays). x.roads) e, ap (λ (x : Arrays). x.carts) e, ap (λ (x : Arrays). x.cells) e)
+
+-- arrays that have each the numbers of a plan
+pub numbers_there : (a b : Arrays) (p : Plan) → b.roads ≡ padded (length a.roads) (flat_map road_numbers p.roads)
+    → b.carts ≡ padded (length a.carts) (flat_map cart_numbers p.carts) → b.cells ≡ padded (length a.cells) (path_cells p.paths) → b ≡ numbers_of a p
+unfolding numbers_of
+numbers_there a b p x y z =
+    ap (λ (s : List ℕ). record { roads = s; carts = b.carts; cells = b.cells }) x
+    ∙ ap (λ (s : List ℕ). record { roads = padded (length a.roads) (flat_map road_numbers p.roads); carts = s; cells = b.cells }) y
+    ∙ ap (λ (s : List ℕ). record { roads = padded (length a.roads) (flat_map road_numbers p.roads); carts = padded (length a.carts) (flat_map cart_numbers p.carts); cells = s }) z
+
+-- room, array by array
+pub room_there : (a : Arrays) → room a ≡ true → (4096 ≤ length a.roads) × (128 ≤ length a.carts) × (8192 ≤ length a.cells)
+unfolding room
+room_there a e =
+    let (x, y) = both_true (leb 4096 (length a.roads) && leb 128 (length a.carts)) (leb 8192 (length a.cells)) e in
+    let (v, w) = both_true (leb 4096 (length a.roads)) (leb 128 (length a.carts)) x in
+    (leb-true 4096 (length a.roads) v, leb-true 128 (length a.carts) w, leb-true 8192 (length a.cells) y)
+  where
+    both_true : (x y : Bool) → (x && y) ≡ true → (x ≡ true) × (y ≡ true)
+    both_true true y e = (refl, e)
+    both_true false y e = absurd (true≢false (sym e))
+
+-- the answer and the arrays are those of `reading`
+module _ (ts : Tables) (a : Arrays) where
+  abbrev pub Into : Answer → Arrays → Type 0
+  Into x b = (x ≡ (reading ts a).answer) × (b ≡ (reading ts a).arrays)
+
+  -- an outcome, in two parts
+  parts : (o : Outcome) → reading ts a ≡ o → Into o.answer o.arrays
+  parts o q = (sym (ap (λ (x : Outcome). x.answer) q), sym (ap (λ (x : Outcome). x.arrays) q))
 
   -- no room
-  pub into_short : room arrays ≡ false → Into Reading.TooShort e s k
-  unfolding read_into reading
+  pub into_short : room a ≡ false → Into (Err ReadError.TooShort) a
+  unfolding reading
   into_short h =
-      parts (record { answer = Reading.TooShort; arrays = arrays })
-      (ap (λ (b : Bool). elim b as (λ _. Outcome) [ false ↦ record { answer = Reading.TooShort; arrays = arrays } | true ↦ record { answer = read_answer (read_tables ts); arrays = arrays_judged arrays (read_tables ts) } ]) h)
+      parts (record { answer = (Err ReadError.TooShort); arrays = a })
+      (ap (λ (b : Bool). elim b as (λ _. Outcome) [ false ↦ record { answer = (Err ReadError.TooShort); arrays = a } | true ↦ record { answer = read_answer (read_tables ts); arrays = arrays_judged a (read_tables ts) } ]) h)
 
-  module _ (has : room arrays ≡ true) where
+  module _ (has : room a ≡ true) where
     -- what a judgement says is answered, and left in the arrays
-    pub into_judged : (j : Judged Plan) → read_tables ts ≡ j → read_into r c p e s k ≡ record { answer = read_answer j; arrays = arrays_judged arrays j }
-    unfolding read_into reading
+    pub into_judged : (j : Judged Plan) → read_tables ts ≡ j → reading ts a ≡ record { answer = read_answer j; arrays = arrays_judged a j }
+    unfolding reading
     into_judged j q =
-        ap (λ (b : Bool). elim b as (λ _. Outcome) [ false ↦ record { answer = Reading.TooShort; arrays = arrays } | true ↦ record { answer = read_answer (read_tables ts); arrays = arrays_judged arrays (read_tables ts) } ]) has
-        ∙ ap (λ (x : Judged Plan). record { answer = read_answer x; arrays = arrays_judged arrays x }) q
+        ap (λ (b : Bool). elim b as (λ _. Outcome) [ false ↦ record { answer = (Err ReadError.TooShort); arrays = a } | true ↦ record { answer = read_answer (read_tables ts); arrays = arrays_judged a (read_tables ts) } ]) has
+        ∙ ap (λ (x : Judged Plan). record { answer = read_answer x; arrays = arrays_judged a x }) q
 
     -- a refusal, and zeros
-    pub into_refused : (why : Refusal) → read_tables ts ≡ refused why → (edges speeds cells : List ℕ)
-        → edges ≡ replicate (length e) 0 → speeds ≡ replicate (length s) 0 → cells ≡ replicate (length k) 0 → Into (Reading.Refused why) edges speeds cells
-    unfolding read_answer arrays_judged zeros
-    into_refused why q edges speeds cells x y z =
-        let (a, (b, (d, f))) = parts _ (into_judged (refused why) q) in (a, (x ∙ b, (y ∙ d, z ∙ f)))
+    pub into_refused : (why : Refusal) → read_tables ts ≡ Err why → (b : Arrays) → b ≡ zeros a → Into (Err (ReadError.Refused why)) b
+    unfolding read_answer arrays_judged
+    into_refused why q b x = let (p, l) = parts _ (into_judged (Err why) q) in (p, x ∙ l)
 
     -- a plan, and its numbers
-    pub into_read : (plan : Plan) → read_tables ts ≡ accepted plan → (answer : Reading) → answer ≡ read_answer (accepted plan) → (edges speeds cells : List ℕ)
-        → edges ≡ padded (length e) (flat_map road_numbers plan.roads) → speeds ≡ padded (length s) (flat_map cart_numbers plan.carts)
-        → cells ≡ padded (length k) (path_cells plan.paths) → Into answer edges speeds cells
-    unfolding arrays_judged numbers_of
-    into_read plan q answer said edges speeds cells x y z =
-        let (a, (b, (d, f))) = parts _ (into_judged (accepted plan) q) in (said ∙ a, (x ∙ b, (y ∙ d, z ∙ f)))
+    pub into_read : (plan : Plan) → read_tables ts ≡ Ok plan → (x : Answer) → x ≡ read_answer (Ok plan) → (b : Arrays) → b ≡ numbers_of a plan → Into x b
+    unfolding arrays_judged
+    into_read plan q x said b y = let (p, l) = parts _ (into_judged (Ok plan) q) in (said ∙ p, y ∙ l)
 
 -- the room that is asked for
 pub room_for : (e s k : List ℕ) → 4096 ≤ length e → 128 ≤ length s → 8192 ≤ length k → room (record { roads = e; carts = s; cells = k }) ≡ true
 unfolding room
 room_for e s k a b c = simp (le-leb 4096 (length e) a, le-leb 128 (length s) b, le-leb 8192 (length k) c)
 
--- and where there is less
-pub no_room : (e s k : List ℕ) → (length e < 4096) ⊎ ((length s < 128) ⊎ (length k < 8192)) → room (record { roads = e; carts = s; cells = k }) ≡ false
-unfolding room
-no_room e s k (inl h) = simp (lt-leb 4096 (length e) h)
-no_room e s k (inr (inl h)) = ap (λ (b : Bool). leb 4096 (length e) && b && leb 8192 (length k)) (lt-leb 128 (length s) h) ∙ ap (λ (b : Bool). b && leb 8192 (length k)) (and-false (leb 4096 (length e)))
-no_room e s k (inr (inr h)) = ap (λ (b : Bool). leb 4096 (length e) && leb 128 (length s) && b) (lt-leb 8192 (length k) h) ∙ and-false (leb 4096 (length e) && leb 128 (length s))
-
 -- ---- with an index
 
--- where no plan is read there is no road
-no_roads_read : (x : Reading) → ((n m w : ℕ) → x ≡ Reading.Read n m w → ⊥) → roads_read x ≡ 0
+-- where no plan is read there is no road, and zeros are the index
+pub roads_none : (x : Answer) → is_ok x ≡ false → (s : List ℕ) (i j : RoadIndex) → IndexCleared i j → Indexed (roads_read x) s j.heads.now j.nexts.now
 unfolding roads_read
-no_roads_read (Reading.Read n m w) h = absurd (h n m w refl)
-no_roads_read Reading.TooShort h = refl
-no_roads_read (Reading.Refused r) h = refl
-
--- and zeros are the index
-pub roads_none : (x : Reading) → ((n m w : ℕ) → x ≡ Reading.Read n m w → ⊥) → (i j : ℕ) (s heads nexts : List ℕ) → heads ≡ replicate i 0 → nexts ≡ replicate j 0
-    → Indexed (roads_read x) s heads nexts
-roads_none x h i j s heads nexts e f = subst (λ (n : ℕ). Indexed n s heads nexts) (sym (no_roads_read x h)) (none_indexed i j s heads nexts e f)
+roads_none (Ok n) h s i j k = absurd (true≢false h)
+roads_none (Err r) h s i j k = none_indexed (length i.heads.now) (length i.nexts.now) s j.heads.now j.nexts.now k.heads k.nexts
 
 -- where one is, as many as it says
-pub roads_told : (x : Reading) (n m w : ℕ) (s heads nexts : List ℕ) → x ≡ Reading.Read n m w → Indexed n s heads nexts → Indexed (roads_read x) s heads nexts
+pub roads_told : (x : Answer) → is_ok x ≡ true → (s : List ℕ) (i : RoadIndex) → ((n : Size) → x ≡ Ok n → Linked n.roads s i) → Linked (roads_read x) s i
 unfolding roads_read
-roads_told x n m w s heads nexts e k = subst (λ (i : ℕ). Indexed i s heads nexts) (sym (ap roads_read e)) k
+roads_told (Ok n) h s i k = k n refl
+roads_told (Err r) h s i k = absurd (true≢false (sym h))
 
 -- an index has 1,024 places each
-pub index_other : (h n : List ℕ) → (length h ≢ 1024) ⊎ (length n ≢ 1024) → index_room h n ≡ false
+pub index_fits : (i : RoadIndex) → length i.heads.now ≡ 1024 → length i.nexts.now ≡ 1024 → index_room i ≡ true
 unfolding index_room
-index_other h n (inl a) = simp (ne_eqb (length h) 1024 a)
-index_other h n (inr b) = ap (λ (t : Bool). eqb (length h) 1024 && t) (ne_eqb (length n) 1024 b) ∙ and-false (eqb (length h) 1024)
+index_fits i a b = simp (eq-eqb (length i.heads.now) 1024 a, eq-eqb (length i.nexts.now) 1024 b)
 
-pub index_fits : (h n : List ℕ) → length h ≡ 1024 → length n ≡ 1024 → index_room h n ≡ true
+pub room_length : (i : RoadIndex) → index_room i ≡ true → (length i.heads.now ≡ 1024) × (length i.nexts.now ≡ 1024)
 unfolding index_room
-index_fits h n a b = simp (eq-eqb (length h) 1024 a, eq-eqb (length n) 1024 b)
+room_length i e = by (eqb (length i.heads.now) 1024) (eqb (length i.nexts.now) 1024) refl refl e
+  where
+    by : (x y : Bool) → eqb (length i.heads.now) 1024 ≡ x → eqb (length i.nexts.now) 1024 ≡ y → (x && y) ≡ true
+        → (length i.heads.now ≡ 1024) × (length i.nexts.now ≡ 1024)
+    by true true p q f = (eqb-true _ _ p, eqb-true _ _ q)
+    by true false p q f = absurd (true≢false (sym f))
+    by false y p q f = absurd (true≢false (sym f))
+
+-- arrays are the same as themselves, and as what is the same as they are
+pub index_self : (i : RoadIndex) → SameIndex i i
+index_self i = record { heads = refl; nexts = refl; heads_long = refl; nexts_long = refl }
+
+pub index_on : (i j k : RoadIndex) → SameIndex i j → SameIndex j k → SameIndex i k
+index_on i j k a b = record { heads = b.heads ∙ a.heads; nexts = b.nexts ∙ a.nexts; heads_long = b.heads_long ∙ a.heads_long; nexts_long = b.nexts_long ∙ a.nexts_long }
 
 -- what is left of the arrays lent for an index, in three cases: no room
-pub index_short : (n : ℕ) (s h k : List ℕ) → (length h ≢ 1024) ⊎ (length k ≢ 1024) → IndexLeft n s h k h k
-index_short n s h k o = record { where_room = λ e. absurd (true≢false (sym e ∙ index_other h k o)); else_same = λ e. (refl, refl) }
+pub index_short : (n : ℕ) (s : List ℕ) (i : RoadIndex) → index_room i ≡ false → IndexLeft n s i i
+index_short n s i e = record { same = index_self i; where_room = λ f. absurd (true≢false (sym f ∙ e)); else_same = λ f. (refl, refl) }
 
 -- room, and that of the roads
-pub index_there : (n : ℕ) (s h k h' k' : List ℕ) → length h ≡ 1024 → length k ≡ 1024 → Indexed n s h' k' → IndexLeft n s h k h' k'
-index_there n s h k h' k' lh lk i = record { where_room = λ e. i; else_same = λ e. absurd (true≢false (sym (index_fits h k lh lk) ∙ e)) }
+pub index_there : (n : ℕ) (s : List ℕ) (i j : RoadIndex) → SameIndex i j → index_room i ≡ true → Indexed n s j.heads.now j.nexts.now → IndexLeft n s i j
+index_there n s i j same room there = record { same = same; where_room = λ e. there; else_same = λ e. absurd (true≢false (sym room ∙ e)) }
 
--- where there is room it is there
-pub index_is : (n : ℕ) (s h k h' k' : List ℕ) → length h ≡ 1024 → length k ≡ 1024 → IndexLeft n s h k h' k' → Indexed n s h' k'
-index_is n s h k h' k' lh lk l = l.where_room (index_fits h k lh lk)
-
--- a copy of an index is one
-pub index_copied : (n : ℕ) (s h k h' k' : List ℕ) → h' ≡ h → k' ≡ k → Indexed n s h k → Indexed n s h' k'
-index_copied n s h k h' k' p q i = subst (λ (x : List ℕ). Indexed n s h' x) (sym q) (subst (λ (x : List ℕ). Indexed n s x k) (sym p) i)
-
--- the answer and three arrays, and beside them what is left of the index
-pub beside_index : {A B C D X Y : Type 0} → A × (B × (C × (D × X))) → Y → A × (B × (C × (D × Y)))
-beside_index (a, (b, (c, (d, _)))) y = (a, (b, (c, (d, y))))
-
--- without it
-pub without_index : {A B C D X : Type 0} → A × (B × (C × (D × X))) → A × (B × (C × D))
-without_index (a, (b, (c, (d, _)))) = (a, (b, (c, d)))
+-- the same arrays have room alike
+pub room_same : (i j : RoadIndex) → SameIndex i j → index_room j ≡ index_room i
+unfolding index_room
+room_same i j k = rw (k.heads_long, k.nexts_long)

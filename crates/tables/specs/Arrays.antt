@@ -1,10 +1,9 @@
 -- A plan's numbers in arrays: how the readers hand them on.
 -- Assumes nothing.
-use Rattle.std.specs.Prelude.{ℕ, zero, suc, drop, get_or}
+use Rattle.std.specs.Prelude.{ℕ, zero, suc, drop, get_or, unwrap_or, None, Some}
 use mathlib.Core.List.{List, [], ◌∷◌, flat_map}
-use Rattle.std.proofs.Math.Option
-use Rattle.std.proofs.Math.Option.{none, some}
-use Rattle.floor.specs.Plan.{Road, Cart}
+use Rattle.floor.specs.declared.Road.{Road}
+use Rattle.floor.specs.declared.Cart.{Cart}
 unfoldable pub use Rattle.collisions.specs.Meetings.{paths_in}
 
 -- a road's numbers, in its record's order
@@ -13,7 +12,7 @@ road_numbers d = d.from ∷ d.to ∷ d.length ∷ d.margin ∷ []
 
 -- a cart's numbers, in its record's order: 0 where it has no slowest speed
 unfoldable pub cart_numbers : Cart → List ℕ
-cart_numbers c = c.fastest ∷ Option.get_or c.slowest 0 ∷ []
+cart_numbers c = c.fastest ∷ unwrap_or c.slowest 0 ∷ []
 
 -- the cells of all paths, cart by cart
 unfoldable pub path_cells : List (List ℕ) → List ℕ
@@ -28,7 +27,7 @@ roads_in (suc n) s =
 -- the n carts in the front of an array
 unfoldable pub carts_in : ℕ → List ℕ → List Cart
 carts_in zero s = []
-carts_in (suc n) s = record { fastest = get_or s 0 0; slowest = elim (get_or s 1 0) [ zero ↦ none | suc v ↦ some (suc v) ] } ∷ carts_in n (drop 2 s)
+carts_in (suc n) s = record { fastest = get_or s 0 0; slowest = elim (get_or s 1 0) [ zero ↦ None | suc v ↦ Some (suc v) ] } ∷ carts_in n (drop 2 s)
 
 -- Names every definition of this module, for a proof that computes with them all.
 unfoldable pub open_arrays : Unit {0}

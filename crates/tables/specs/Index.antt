@@ -1,6 +1,7 @@
 -- Roads linked by a remainder of their cells: the road between two cells is found among those of its remainder.
 -- Assumes nothing.
-use Rattle.std.specs.Prelude.{ℕ, zero, suc, ◌+◌, ◌*◌, ◌%◌, ◌≤◌, ◌<◌, ◌≡◌, Bool, true, false, ◌&&◌, cond, List, eqb, length, get_or}
+use Rattle.std.specs.Prelude.{ℕ, zero, suc, ◌+◌, ◌*◌, ◌%◌, ◌≤◌, ◌<◌, ◌≡◌, Bool, true, false, ◌&&◌, cond, List, eqb, length, get_or, replicate}
+use Rattle.tables.specs.declared.lent.RoadIndex.{RoadIndex}
 
 -- the remainder of a road between two cells: the same both ways
 unfoldable pub bucket : ℕ → ℕ → ℕ
@@ -23,13 +24,37 @@ pub record Indexed (n : ℕ) (s heads nexts : List ℕ) : Type 0 where
   pub nexts_end : (j : ℕ) → n ≤ j → get_or nexts j 0 ≡ 0
 
 -- an index has 1,024 places for remainders and as many for roads
-unfoldable pub index_room : List ℕ → List ℕ → Bool
-index_room heads nexts = eqb (length heads) 1024 && eqb (length nexts) 1024
+unfoldable pub index_room : RoadIndex → Bool
+index_room i = eqb (length i.heads.now) 1024 && eqb (length i.nexts.now) 1024
 
--- what is left of two arrays lent for an index: that of n roads, or without room they stay as they came
-pub record IndexLeft (n : ℕ) (s heads nexts heads' nexts' : List ℕ) : Type 0 where
-  pub where_room : index_room heads nexts ≡ true → Indexed n s heads' nexts'
-  pub else_same : index_room heads nexts ≡ false → (heads' ≡ heads) × (nexts' ≡ nexts)
+-- two arrays with that room are the index of n roads
+pub record Linked (n : ℕ) (s : List ℕ) (i : RoadIndex) : Type 0 where
+  pub heads_long : length i.heads.now ≡ 1024
+  pub nexts_long : length i.nexts.now ≡ 1024
+  pub indexed : Indexed n s i.heads.now i.nexts.now
+
+-- they have that room, and are the index of no road
+abbrev pub Unlinked : RoadIndex → Type 0
+Unlinked i = (i.heads.now ≡ replicate 1024 0) × (i.nexts.now ≡ replicate 1024 0)
+
+-- they are the same arrays, and as long, whatever is in them
+pub record SameIndex (i j : RoadIndex) : Type 0 where
+  pub heads : j.heads.ghost_name ≡ i.heads.ghost_name
+  pub nexts : j.nexts.ghost_name ≡ i.nexts.ghost_name
+  pub heads_long : length j.heads.now ≡ length i.heads.now
+  pub nexts_long : length j.nexts.now ≡ length i.nexts.now
+
+-- with zeros in each place
+pub record IndexCleared (i j : RoadIndex) : Type 0 where
+  pub same : SameIndex i j
+  pub heads : j.heads.now ≡ replicate (length i.heads.now) 0
+  pub nexts : j.nexts.now ≡ replicate (length i.nexts.now) 0
+
+-- what is left of arrays lent for an index: that of n roads, or without room they stay as they came
+pub record IndexLeft (n : ℕ) (s : List ℕ) (i j : RoadIndex) : Type 0 where
+  pub same : SameIndex i j
+  pub where_room : index_room i ≡ true → Indexed n s j.heads.now j.nexts.now
+  pub else_same : index_room i ≡ false → (j.heads.now ≡ i.heads.now) × (j.nexts.now ≡ i.nexts.now)
 
 -- Names every definition of this module, for a proof that computes with them all.
 unfoldable pub open_index : Unit {0}

@@ -1,3 +1,4 @@
 pub mod Arrays
 pub mod Index
 pub mod Reading
+pub mod Lending

@@ -1,343 +1,187 @@
 // The three tables read and judged into arrays. The definitions of the tables are those of floor; those of the arrays are in specs/.
+// A number is narrowed by `as` where it fits: a `try_from` would have an error that cannot come.
 #![tactic(auto)]
 
 mod carts;
+mod lent;
 mod on_roads;
 mod paths;
 mod roads;
 
-ghost use Rattle.std.specs.Prelude.{◌≡◌, ℕ, ◌*◌, ◌≤◌, length, replicate};
-ghost use mathlib.Core.List.{List, flat_map};
-ghost use Rattle.floor.specs.Refusal.{accepted};
+ghost use Rattle.std.specs.Prelude.{◌≡◌, true, ℕ, ◌*◌, ◌≤◌, ◌<◌, length, replicate};
+ghost use Rattle.rfc4180.specs.Records.{records};
 ghost use Rattle.floor.specs.Plan.{Plan};
 ghost use Rattle.floor.specs.Tables.{read_tables};
-ghost use Rattle.tables.specs.Arrays.{road_numbers, cart_numbers, path_cells, roads_in, paths_in};
-ghost use Rattle.tables.specs.Index.{Indexed, IndexLeft};
-ghost use Rattle.tables.specs.Reading.{apart, read_apart, paths_read, read_answer, read_into, roads_read};
-ghost use Rattle.words.specs.Words.{padded};
+ghost use Rattle.tables.specs.Arrays.{roads_in, paths_in};
+ghost use Rattle.tables.specs.Index.{bucket, Linked, Unlinked, IndexLeft};
+ghost use Rattle.tables.specs.Lending.{tables_of, arrays_of, SameArrays};
+ghost use Rattle.tables.specs.Reading.{apart, accepted, size_read, room, zeros, numbers_of, reading, roads_read, BeginsWith};
 
-use collisions::Meeting;
+use collisions::Paths;
 use floor::{Reason, Refusal, Table};
+pub use lent::{PlanArrays, RoadIndex, Tables};
+use rfc4180::Reader;
+use roads::Roads;
 
-// What the reader of the tables answers: how many roads, carts and steps there are, or why there is no plan.
-#[derive(Drop)]
-pub enum Reading {
-    Read {
-        roads: usize,
-        carts: usize,
-        steps: usize,
-    },
+// How many roads, carts and steps a plan has.
+#[derive(Clone, Copy, Debug, PartialEq, Eq)]
+pub struct Size {
+    pub roads: usize,
+    pub carts: usize,
+    pub steps: usize,
+}
+
+impl Size {
+    // The paths of a plan of this size in an array.
+    pub fn paths<'a>(self, cells: &'a [u32]) -> Paths<'a>
+        ensures cells { result.cells.now ≡ cells.now }
+        ensures carts { result.carts ≡ self.carts }
+        ensures steps { result.steps ≡ self.steps }
+    {
+        Paths {
+            cells,
+            carts: self.carts,
+            steps: self.steps,
+        }
+    }
+}
+
+// Why the reader of the tables gives no plan: an array has no room, or the tables are turned down.
+#[derive(Clone, Copy, Debug, PartialEq, Eq)]
+pub enum ReadError {
     TooShort,
     Refused(Refusal),
 }
 
-// What is said of one record: it is taken, or why not.
-#[derive(Drop)]
-enum Taken {
-    Kept,
-    Refused(Reason),
-}
-
-// What is said of one table: how many there are, or the refusal.
-#[derive(Drop)]
-enum Count {
-    Read(usize),
-    Refused(Refusal),
-}
-
-// A cart's speeds, as far as the layout of its record goes.
-#[derive(Drop)]
-enum Speeds {
-    Both(u64, u64),
-    Fastest(u64),
-    Malformed,
-}
-
-// A road's numbers, in their ranges, or why there are none.
-#[derive(Drop)]
-enum RoadRead {
-    Numbers(u32, u32, u32, u32),
-    Refused(Reason),
-}
-
-// What is said of one path: it is taken, with how many cells, or why not.
-#[derive(Drop)]
-enum PathTaken {
-    Kept(usize),
-    Refused(Reason),
-}
-
-// What is said of the paths: how many there are and of how many steps, or the refusal.
-#[derive(Drop)]
-enum PathsRead {
-    Read(usize, usize),
-    Refused(Refusal),
-}
-
-// Zeros in every place.
-fn clear(s: &mut [u32])
-    ensures { s.new ≡ replicate (length s.old) 0 }
+// The remainder that a road between two cells is linked by.
+pub fn bucket_of(a: u32, b: u32) -> usize
+    ensures { (result ≡ bucket a b) × (result < 1024) }
 {
-    let mut i = 0;
-    while i < s.len() {
-        s[i] = 0;
-        i += 1;
+    ((u64::from(a) + u64::from(b)) % 1024) as usize
+}
+
+// Whether the first record of a table is this line; it is passed over.
+fn begins_with(rows: &mut Reader, line: &[u8]) -> bool
+    ensures { BeginsWith line.now (records rows.old.rest.now) result (records rows.new.rest.now) }
+{
+    rows.next()
+        .is_some_and(|row| rfc4180::same_bytes(line, row))
+}
+
+// What is said of the paths of a plan of this size in arrays: refusals 7, 8 and 9.
+fn judge_paths(size: Size, arrays: &PlanArrays, index: &RoadIndex) -> Result<(), Refusal>
+    requires roads { (size.roads ≤ 1024) × (4 * size.roads ≤ length arrays.now.edges.now) × Linked size.roads arrays.now.edges.now index.now }
+    requires paths { (1 ≤ size.carts) × (size.carts * size.steps ≤ length arrays.now.cells.now) }
+    ensures { result ≡ accepted (apart (roads_in size.roads arrays.now.edges.now) (paths_in size.carts size.steps arrays.now.cells.now)) }
+{
+    let roads = Roads {
+        numbers: arrays.edges,
+        index,
+        count: size.roads,
+    };
+    let paths = size.paths(arrays.cells);
+    if let Some(row) = on_roads::off_roads(roads, paths) {
+        return Err(Table::Paths.refuses(Reason::OffRoad, row));
     }
-}
-
-// Zeros in every place of three arrays.
-pub fn clear_all(edges: &mut [u32], speeds: &mut [u32], cells: &mut [u32])
-    ensures edges { edges.new ≡ replicate (length edges.old) 0 }
-    ensures speeds { speeds.new ≡ replicate (length speeds.old) 0 }
-    ensures cells { cells.new ≡ replicate (length cells.old) 0 }
-{
-    clear(edges);
-    clear(speeds);
-    clear(cells);
-}
-
-// What is said of paths in an array: refusals 7, 8 and 9.
-fn judge_paths(
-    edges: &[u32],
-    heads: &[u16],
-    nexts: &[u16],
-    n: usize,
-    cells: &[u32],
-    carts: usize,
-    w: usize,
-) -> PathsRead
-    requires le_carts { (1 ≤ carts) × (4 * n ≤ length edges.now) × (carts * w ≤ length cells.now) }
-    requires n_bound { (n ≤ 1024) × (length heads.now ≡ 1024) × (length nexts.now ≡ 1024) × Indexed n edges.now heads.now nexts.now }
-    ensures { result ≡ paths_read (apart (roads_in n edges.now) (paths_in carts w cells.now)) }
-{
-    let off = on_roads::off_roads(edges, heads, nexts, n, cells, carts, w);
-    if off != 0 {
-        return PathsRead::Refused(Refusal {
-            reason: Reason::OffRoad,
-            table: Table::Paths,
-            row: off,
-        });
-    }
-    let x = collisions::first_meeting(cells, carts, w);
-    match x {
-        Meeting::SameCell(i) => PathsRead::Refused(Refusal {
-            reason: Reason::SameCell,
-            table: Table::Paths,
-            row: i,
-        }),
-        Meeting::Exchange(i) => PathsRead::Refused(Refusal {
-            reason: Reason::Exchange,
-            table: Table::Paths,
-            row: i,
-        }),
-        Meeting::Apart => PathsRead::Read(carts, w),
-    }
-}
-
-// The table of paths read and held against the n roads and against each other.
-fn read_apart(
-    edges: &[u32],
-    heads: &[u16],
-    nexts: &[u16],
-    n: usize,
-    table: &[u8],
-    carts: usize,
-    cells: &mut [u32],
-) -> PathsRead
-    requires le_carts { (1 ≤ carts) × (4 * n ≤ length edges.now) × (8192 ≤ length cells.old) × (cells.old ≡ replicate (length cells.old) 0) }
-    requires n_bound { (n ≤ 1024) × (length heads.now ≡ 1024) × (length nexts.now ≡ 1024) × Indexed n edges.now heads.now nexts.now }
-    ensures answer { result ≡ paths_read (read_apart (roads_in n edges.now) carts table.now) }
-    ensures left { (ps : List (List ℕ)) → read_apart (roads_in n edges.now) carts table.now ≡ accepted ps → cells.new ≡ padded (length cells.old) (path_cells ps) }
-{
-    let x = paths::read_table(table, carts, cells);
-    match x {
-        PathsRead::Refused(why) => PathsRead::Refused(why),
-        PathsRead::Read(k, w) => judge_paths(edges, heads, nexts, n, cells, k, w),
+    match collisions::first_meeting(paths) {
+        Some(meeting) => Err(meeting.into()),
+        None => Ok(()),
     }
 }
 
 // The three tables, and the index of the roads, in arrays of zeros.
 fn read_each(
-    roads: &[u8],
-    carts: &[u8],
-    paths: &[u8],
-    edges: &mut [u32],
-    speeds: &mut [u32],
-    cells: &mut [u32],
-    heads: &mut [u16],
-    nexts: &mut [u16],
-) -> Reading
-    requires in_bounds { (4096 ≤ length edges.old) × (128 ≤ length speeds.old) × (8192 ≤ length cells.old) }
-    requires heads_value { (heads.old ≡ replicate 1024 0) × (nexts.old ≡ replicate 1024 0) }
-    requires edges_value { (edges.old ≡ replicate (length edges.old) 0) × (speeds.old ≡ replicate (length speeds.old) 0) × (cells.old ≡ replicate (length cells.old) 0) }
-    ensures answer { result ≡ read_answer (read_tables (record { roads = roads.entry.now; carts = carts.now; paths = paths.now })) }
-    ensures edges { (p : Plan) → read_tables (record { roads = roads.entry.now; carts = carts.now; paths = paths.now }) ≡ accepted p → edges.new ≡ padded (length edges.old) (flat_map road_numbers p.roads) }
-    ensures speeds { (p : Plan) → read_tables (record { roads = roads.entry.now; carts = carts.now; paths = paths.now }) ≡ accepted p → speeds.new ≡ padded (length speeds.old) (flat_map cart_numbers p.carts) }
-    ensures cells { (p : Plan) → read_tables (record { roads = roads.entry.now; carts = carts.now; paths = paths.now }) ≡ accepted p → cells.new ≡ padded (length cells.old) (path_cells p.paths) }
-    ensures index { (p : Plan) → read_tables (record { roads = roads.entry.now; carts = carts.now; paths = paths.now }) ≡ accepted p → Indexed (length p.roads) edges.new heads.new nexts.new }
+    tables: Tables,
+    arrays: &mut PlanArrays,
+    index: &mut RoadIndex,
+) -> Result<Size, Refusal>
+    requires room { room (arrays_of arrays.old) ≡ true }
+    requires cleared { arrays_of arrays.old ≡ zeros (arrays_of arrays.old) }
+    requires unlinked { Unlinked index.old }
+    ensures answer { result ≡ size_read (read_tables (tables_of tables.entry)) }
+    ensures left { (p : Plan) → read_tables (tables_of tables.entry) ≡ Ok p → arrays_of arrays.new ≡ numbers_of (arrays_of arrays.old) p }
+    ensures same { SameArrays arrays.old arrays.new }
+    ensures index { (p : Plan) → read_tables (tables_of tables.entry) ≡ Ok p → Linked (length p.roads) arrays.new.edges.now index.new }
 {
-    let x = roads::read_table(roads, edges, heads, nexts);
-    match x {
-        Count::Refused(why) => Reading::Refused(why),
-        Count::Read(n) => {
-            let y = carts::read_table(carts, speeds);
-            match y {
-                Count::Refused(why) => Reading::Refused(why),
-                Count::Read(m) => {
-                    let z = read_apart(edges, heads, nexts, n, paths, m, cells);
-                    match z {
-                        PathsRead::Refused(why) => Reading::Refused(why),
-                        PathsRead::Read(_, w) => Reading::Read {
-                            roads: n,
-                            carts: m,
-                            steps: w,
-                        },
-                    }
-                }
-            }
-        }
-    }
+    let n = roads::read_table(tables.roads, arrays.edges, index)?;
+    let m = carts::read_table(tables.carts, arrays.speeds)?;
+    let (count, steps) = paths::read_table(tables.paths, m, arrays.cells)?;
+    let size = Size {
+        roads: n,
+        carts: count,
+        steps,
+    };
+    judge_paths(size, arrays, index)?;
+    Ok(size)
 }
 
-// Reads and judges the three tables, up to refusal 9. The numbers of an accepted plan are left in the arrays: four a road, two a cart, one a path cell; and
-// the index of its roads in two of zeros.
+// Reads and judges the three tables, up to refusal 9. The numbers of an accepted plan are left in the arrays; and the index of its roads in two of zeros.
 fn read_arrays(
-    roads: &[u8],
-    carts: &[u8],
-    paths: &[u8],
-    edges: &mut [u32],
-    speeds: &mut [u32],
-    cells: &mut [u32],
-    heads: &mut [u16],
-    nexts: &mut [u16],
-) -> Reading
-    requires { (heads.old ≡ replicate 1024 0) × (nexts.old ≡ replicate 1024 0) }
-    ensures answer { result ≡ (read_into roads.now carts.now paths.now edges.old speeds.old cells.old).answer }
-    ensures edges { edges.new ≡ (read_into roads.now carts.now paths.now edges.old speeds.old cells.old).arrays.roads }
-    ensures speeds { speeds.new ≡ (read_into roads.now carts.now paths.now edges.old speeds.old cells.old).arrays.carts }
-    ensures cells { cells.new ≡ (read_into roads.now carts.now paths.now edges.old speeds.old cells.old).arrays.cells }
-    ensures index { (n m w : ℕ) → result ≡ Reading.Read n m w → Indexed n edges.new heads.new nexts.new }
+    tables: Tables,
+    arrays: &mut PlanArrays,
+    index: &mut RoadIndex,
+) -> Result<Size, ReadError>
+    requires { Unlinked index.old }
+    ensures answer { result ≡ (reading (tables_of tables.entry) (arrays_of arrays.old)).answer }
+    ensures left { arrays_of arrays.new ≡ (reading (tables_of tables.entry) (arrays_of arrays.old)).arrays }
+    ensures same { SameArrays arrays.old arrays.new }
+    ensures index { (n : Size) → result ≡ Ok n → Linked n.roads arrays.new.edges.now index.new }
 {
-    if edges.len() < 4_096 {
-        return Reading::TooShort;
+    if !arrays.has_room() {
+        return Err(ReadError::TooShort);
     }
-    if speeds.len() < 128 {
-        return Reading::TooShort;
-    }
-    if cells.len() < 8_192 {
-        return Reading::TooShort;
-    }
-    clear_all(edges, speeds, cells);
-    let x = read_each(roads, carts, paths, edges, speeds, cells, heads, nexts);
-    match x {
-        Reading::Refused(why) => {
-            clear_all(edges, speeds, cells);
-            Reading::Refused(why)
+    arrays.clear();
+    match read_each(tables, arrays, index) {
+        Ok(size) => Ok(size),
+        Err(why) => {
+            arrays.clear();
+            Err(ReadError::Refused(why))
         }
-        Reading::TooShort => Reading::TooShort,
-        Reading::Read {
-            roads: n,
-            carts: m,
-            steps: w,
-        } => Reading::Read {
-            roads: n,
-            carts: m,
-            steps: w,
-        },
-    }
-}
-
-// Zeros in every place of an array of two-byte numbers, as those of an index.
-pub fn clear_narrow(numbers: &mut [u16])
-    ensures { numbers.new ≡ replicate (length numbers.old) 0 }
-{
-    let mut at = 0;
-    while at < numbers.len() {
-        numbers[at] = 0;
-        at += 1;
-    }
-}
-
-// One array of two-byte numbers copied to another that is as long.
-fn copy_narrow(from: &[u16], to: &mut [u16])
-    requires { length to.old ≡ length from.now }
-    ensures { to.new ≡ from.now }
-{
-    let mut k = 0;
-    while k < from.len() {
-        to[k] = from[k];
-        k += 1;
     }
 }
 
 // The same with the index of the roads handed on, so that who goes along them need not make it again: in two arrays of 1,024 places, as that of no road
 // where no plan is read. It is made in memory of its own, which is free again when the limits are counted.
 pub fn read_indexed(
-    roads: &[u8],
-    carts: &[u8],
-    paths: &[u8],
-    edges: &mut [u32],
-    speeds: &mut [u32],
-    cells: &mut [u32],
-    heads: &mut [u16],
-    nexts: &mut [u16],
-) -> Reading
-    ensures answer { result ≡ (read_into roads.now carts.now paths.now edges.old speeds.old cells.old).answer }
-    ensures edges { edges.new ≡ (read_into roads.now carts.now paths.now edges.old speeds.old cells.old).arrays.roads }
-    ensures speeds { speeds.new ≡ (read_into roads.now carts.now paths.now edges.old speeds.old cells.old).arrays.carts }
-    ensures cells { cells.new ≡ (read_into roads.now carts.now paths.now edges.old speeds.old cells.old).arrays.cells }
-    ensures index { IndexLeft (roads_read result) edges.new heads.old nexts.old heads.new nexts.new }
+    tables: Tables,
+    arrays: &mut PlanArrays,
+    index: &mut RoadIndex,
+) -> Result<Size, ReadError>
+    ensures answer { result ≡ (reading (tables_of tables.entry) (arrays_of arrays.old)).answer }
+    ensures left { arrays_of arrays.new ≡ (reading (tables_of tables.entry) (arrays_of arrays.old)).arrays }
+    ensures same { SameArrays arrays.old arrays.new }
+    ensures index { IndexLeft (roads_read result) arrays.new.edges.now index.old index.new }
 {
     let mut lasts: [u16; 1024] = [0; 1024];
     let mut befores: [u16; 1024] = [0; 1024];
-    let x = read_arrays(
-        roads,
-        carts,
-        paths,
-        edges,
-        speeds,
-        cells,
-        &mut lasts,
-        &mut befores,
-    );
-    if heads.len() != 1024 {
+    let mut made = RoadIndex {
+        heads: &mut lasts,
+        nexts: &mut befores,
+    };
+    let x = read_arrays(tables, arrays, &mut made);
+    if !index.has_room() {
         return x;
     }
-    if nexts.len() != 1024 {
-        return x;
+    if x.is_ok() {
+        index.heads.copy_from_slice(made.heads);
+        index.nexts.copy_from_slice(made.nexts);
+    } else {
+        index.clear();
     }
-    if let Reading::Read {
-        roads: _,
-        carts: _,
-        steps: _,
-    } = x
-    {
-        copy_narrow(&lasts, heads);
-        copy_narrow(&befores, nexts);
-        return x;
-    }
-    clear_narrow(heads);
-    clear_narrow(nexts);
     x
 }
 
 // The same without an index: it is not handed on to arrays of one place.
-pub fn read_tables(
-    roads: &[u8],
-    carts: &[u8],
-    paths: &[u8],
-    edges: &mut [u32],
-    speeds: &mut [u32],
-    cells: &mut [u32],
-) -> Reading
-    ensures answer { result ≡ (read_into roads.now carts.now paths.now edges.old speeds.old cells.old).answer }
-    ensures edges { edges.new ≡ (read_into roads.now carts.now paths.now edges.old speeds.old cells.old).arrays.roads }
-    ensures speeds { speeds.new ≡ (read_into roads.now carts.now paths.now edges.old speeds.old cells.old).arrays.carts }
-    ensures cells { cells.new ≡ (read_into roads.now carts.now paths.now edges.old speeds.old cells.old).arrays.cells }
+pub fn read_tables(tables: Tables, arrays: &mut PlanArrays) -> Result<Size, ReadError>
+    ensures answer { result ≡ (reading (tables_of tables.entry) (arrays_of arrays.old)).answer }
+    ensures left { arrays_of arrays.new ≡ (reading (tables_of tables.entry) (arrays_of arrays.old)).arrays }
+    ensures same { SameArrays arrays.old arrays.new }
 {
     let mut heads = [0u16; 1];
     let mut nexts = [0u16; 1];
-    read_indexed(
-        roads, carts, paths, edges, speeds, cells, &mut heads, &mut nexts,
-    )
+    let mut none = RoadIndex {
+        heads: &mut heads,
+        nexts: &mut nexts,
+    };
+    read_indexed(tables, arrays, &mut none)
 }

@@ -1,45 +1,42 @@
 // Reads roads.csv, carts.csv and paths.csv from the folder that it is run in, and prints the times of their plan, or the refusal.
 #![tactic(auto)]
 
-ghost use Rattle.std.specs.Prelude.{◌≡◌, ◌≤◌, length, take};
+ghost use Rattle.std.specs.Prelude.{◌≤◌, length};
 
-use printing::Printed;
 use std::io::{Read, Write};
 use std::rt::Files;
 use std::{fs, io};
+use tables::Tables;
 
 // Reads until the table is full, the file ends or a read fails. Returns how many bytes were read.
 fn read_full(file: &mut impl Read, table: &mut [u8]) -> usize
-    ensures bound { result ≤ length table.new }
-    ensures prefix { result ≡ length (take result table.new) }
+    ensures { result ≤ length table.new }
 {
     let mut done = 0;
+    // a `while`: the library has no method that keeps what was read where a read fails
     while done < table.len() {
-        match file.read(&mut table[done..]) {
-            Ok(0) => return done,
-            Ok(n) => done += n,
-            Err(_) => return done,
+        let n = file.read(&mut table[done..]).unwrap_or(0);
+        if n == 0 {
+            break;
         }
+        done += n;
     }
     done
 }
 
-// Reads a file; one that can't be opened counts as zero bytes. Returns how many bytes were read.
-fn read_table(files: &impl Files, path: &str, table: &mut [u8]) -> usize
-    ensures bound { result ≤ length table.new }
-    ensures prefix { result ≡ length (take result table.new) }
-{
-    match fs::open(files, path) {
-        Ok(mut file) => read_full(&mut file, table),
-        Err(_) => 0,
-    }
+// Reads a file into a table, and returns what was read; a file that can't be opened counts as zero bytes.
+fn read_table<'t>(files: &impl Files, path: &str, table: &'t mut [u8]) -> &'t [u8] {
+    let Ok(mut file) = fs::open(files, path) else {
+        return &[];
+    };
+    let n = read_full(&mut file, table);
+    &table[..n]
 }
 
 // Prints what three tables come to.
-fn print_tables(rt: &impl Print, roads: &[u8], carts: &[u8], paths: &[u8]) -> io::Result<()> {
+fn print_tables(rt: &impl Print, tables: Tables) -> io::Result<()> {
     let mut out = [0u8; 348245];
-    let x = printing::print(roads, carts, paths, &mut out);
-    if let Printed::Bytes(n) = x {
+    if let Some(n) = printing::print(tables, &mut out) {
         io::writer(rt).write_all(&out[..n])?;
     }
     Ok(())
@@ -50,8 +47,10 @@ fn main(rt: HostRuntime) -> io::Result<()> {
     let mut roads = [0u8; 65537];
     let mut carts = [0u8; 65537];
     let mut paths = [0u8; 65537];
-    let r = read_table(&rt, "roads.csv", &mut roads);
-    let c = read_table(&rt, "carts.csv", &mut carts);
-    let p = read_table(&rt, "paths.csv", &mut paths);
-    print_tables(&rt, &roads[..r], &carts[..c], &paths[..p])
+    let tables = Tables {
+        roads: read_table(&rt, "roads.csv", &mut roads),
+        carts: read_table(&rt, "carts.csv", &mut carts),
+        paths: read_table(&rt, "paths.csv", &mut paths),
+    };
+    print_tables(&rt, tables)
 }

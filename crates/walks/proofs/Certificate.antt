@@ -1,5 +1,6 @@
 -- Values that the certificate's checks pass are the greatest sums of the weights: 8,192 times the greatest sum over walks, less the least number of arcs
 -- of a walk that has it; and the number of passes is the greatest of those numbers. Assumes nothing.
+use Rattle.std.specs.Prelude.{Option, None, Some}
 use Prim.Native.Nat.{ℕ, zero, suc, ◌+◌, ◌-◌, ◌≤◌, ◌<◌}
 use native.Mathlib.Decide.{ℕ_discrete, dec_lt}
 use native.Mathlib.Omega.{arith}
@@ -7,7 +8,6 @@ use mathlib.Core.Path.{◌≡◌, refl, ap, sym, ◌∙◌, subst}
 use mathlib.Core.Logic.{◌≢◌, by_cases}
 use mathlib.Core.List.Memᴰ
 use mathlib.Core.List.{List, map, Memᴰ}
-use mathlib.Core.Option.{Option, none, some}
 use lib.ListN.{get_or}
 use lib.IntN.{ℤ, pos, ◌+ℤ◌, ◌-ℤ◌, ◌*ℤ◌}
 use lib.Signed.{◌≤ℤ◌}
@@ -249,17 +249,17 @@ module _ (arcs : List Arc) where
       -- ---- the passes settle on the times, and their number is the greatest of the numbers of arcs
 
       -- after m passes an event has its time, if its number is at most m
-      sum_after : (m v : ℕ) → v < n → h v ≤ m → get_or (sums arcs n m) v none ≡ some (t v)
+      sum_after : (m v : ℕ) → v < n → h v ≤ m → get_or (sums arcs n m) v None ≡ Some (t v)
       sum_after m v l b =
-          let a : AtLeast (get_or (sums arcs n m) v none) (t v) = none_greater arcs n m (h v) v (t v) p (ends_below arcs n between) (met v l).0 b in
+          let a : AtLeast (get_or (sums arcs n m) v None) (t v) = none_greater arcs n m (h v) v (t v) p (ends_below arcs n between) (met v l).0 b in
           let e : a.value ≡ t v = omega (signed, a.least, below_solutions arcs n t certified_solves m v a.value a.there) in
-          a.there ∙ ap some e
+          a.there ∙ ap Some e
 
-      module _ (s : Settled) (e : settled arcs n ≡ some s) where
+      module _ (s : Settled) (e : settled arcs n ≡ Some s) where
         -- where they settle, every event has its time
-        settled_time : (v : ℕ) → v < n → get_or s.sums v none ≡ some (t v)
+        settled_time : (v : ℕ) → v < n → get_or s.sums v None ≡ Some (t v)
         settled_time v l =
-            ap (λ (r : Sums). get_or r v none) (settled_after arcs n p between s e (s.passes + h v) (omega arith))
+            ap (λ (r : Sums). get_or r v None) (settled_after arcs n p between s e (s.passes + h v) (omega arith))
             ∙ sum_after (s.passes + h v) v l (omega arith)
 
         -- its number is at most the number of passes
@@ -287,12 +287,12 @@ module _ (arcs : List Arc) where
                 absurd (b 0 p (omega (arith, most 0 p)))
 
       -- so they settle, on the times, after as many passes as the greatest of the numbers
-      pub certified_settled : (s : Settled) × (settled arcs n ≡ some s) × ((v : ℕ) → v < n → get_or s.sums v none ≡ some (t v))
+      pub certified_settled : (s : Settled) × (settled arcs n ≡ Some s) × ((v : ℕ) → v < n → get_or s.sums v None ≡ Some (t v))
           × ((v : ℕ) → v < n → h v ≤ s.passes) × ((v : ℕ) × (v < n) × (h v ≡ s.passes))
       certified_settled = by (settled arcs n) refl
         where
           by : (o : Option Settled) → settled arcs n ≡ o
-              → (s : Settled) × (settled arcs n ≡ some s) × ((v : ℕ) → v < n → get_or s.sums v none ≡ some (t v))
+              → (s : Settled) × (settled arcs n ≡ Some s) × ((v : ℕ) → v < n → get_or s.sums v None ≡ Some (t v))
               × ((v : ℕ) → v < n → h v ≤ s.passes) × ((v : ℕ) × (v < n) × (h v ≡ s.passes))
-          by none e = absurd (solution_settles arcs n p between t certified_solves e)
-          by (some s) e = (s, e, settled_time s e, most s e, reached s e)
+          by None e = absurd (solution_settles arcs n p between t certified_solves e)
+          by (Some s) e = (s, e, settled_time s e, most s e, reached s e)

@@ -1,8 +1,8 @@
 -- The settled sums are the least times that every arc allows. Assumes nothing.
+use Rattle.std.specs.Prelude.{None, Some}
 use Prim.Native.Nat.{ℕ, suc, ◌<◌}
 use mathlib.Core.Path.{◌≡◌, ap, sym, ◌∙◌}
 use mathlib.Core.List.{List, Memᴰ}
-use mathlib.Core.Option.{none, some}
 use lib.IntN.{ℤ, pos, ◌+ℤ◌}
 use lib.Signed.{◌≤ℤ◌}
 use lib.ListN.{get_or}
@@ -30,29 +30,29 @@ walk_below arcs t h j v w walk =
     omega (signed, sum (t 0) w)
 
 -- so it is not below the sums after any number of passes
-pub below_solutions : (arcs : List Arc) (n : ℕ) (t : ℕ → ℤ) → Solves arcs t → (k v : ℕ) (x : ℤ) → get_or (sums arcs n k) v none ≡ some x → x ≤ℤ t v
+pub below_solutions : (arcs : List Arc) (n : ℕ) (t : ℕ → ℤ) → Solves arcs t → (k v : ℕ) (x : ℤ) → get_or (sums arcs n k) v None ≡ Some x → x ≤ℤ t v
 below_solutions arcs n t h k v x e = let r : WalkWithin arcs k v x = some_equal arcs n k v x e in walk_below arcs t h r.count v x r.walk
 
-module _ (arcs : List Arc) (n : ℕ) (p : 0 < n) (i : Between arcs n) (s : Settled) (e : settled arcs n ≡ some s) where
+module _ (arcs : List Arc) (n : ℕ) (p : 0 < n) (i : Between arcs n) (s : Settled) (e : settled arcs n ≡ Some s) where
   -- nor below the settled sums
-  pub below_settled : (t : ℕ → ℤ) → Solves arcs t → (v : ℕ) (x : ℤ) → get_or s.sums v none ≡ some x → x ≤ℤ t v
-  below_settled t h v x f = below_solutions arcs n t h s.passes v x (ap (λ (l : Sums). get_or l v none) (sym (settled_is arcs n s e).0) ∙ f)
+  pub below_settled : (t : ℕ → ℤ) → Solves arcs t → (v : ℕ) (x : ℤ) → get_or s.sums v None ≡ Some x → x ≤ℤ t v
+  below_settled t h v x f = below_solutions arcs n t h s.passes v x (ap (λ (l : Sums). get_or l v None) (sym (settled_is arcs n s e).0) ∙ f)
 
   -- every arc allows the settled sums: a walk to its beginning goes on along it
-  pub settled_solves : (a : Arc) → Memᴰ a arcs → (x y : ℤ) → get_or s.sums a.from none ≡ some x → get_or s.sums a.to none ≡ some y
+  pub settled_solves : (a : Arc) → Memᴰ a arcs → (x y : ℤ) → get_or s.sums a.from None ≡ Some x → get_or s.sums a.to None ≡ Some y
       → (x +ℤ a.adds) ≤ℤ y
   settled_solves a m x y f g =
       let r : WalkWithin arcs s.passes a.from x = settled_walk arcs n p i s e a.from x f in
-      let b : AtLeast (get_or s.sums a.to none) (x +ℤ a.adds) = settled_bounds arcs n p i s e (suc r.count) a.to (x +ℤ a.adds) (go a m r.walk) in
-      let q : b.value ≡ y = one_value (get_or s.sums a.to none) b.value y b.there g in
+      let b : AtLeast (get_or s.sums a.to None) (x +ℤ a.adds) = settled_bounds arcs n p i s e (suc r.count) a.to (x +ℤ a.adds) (go a m r.walk) in
+      let q : b.value ≡ y = one_value (get_or s.sums a.to None) b.value y b.there g in
       omega (signed, b.least)
 
   -- where every event has a sum, they are a solution, and no solution has an event earlier
-  pub settled_is_least : (t : ℕ → ℤ) → ((v : ℕ) → v < n → get_or s.sums v none ≡ some (t v))
+  pub settled_is_least : (t : ℕ → ℤ) → ((v : ℕ) → v < n → get_or s.sums v None ≡ Some (t v))
       → Solves arcs t × ((u : ℕ → ℤ) → Solves arcs u → (v : ℕ) → v < n → t v ≤ℤ u v)
   settled_is_least t h = (
     record {
-      zeroed = one_value (get_or s.sums 0 none) (t 0) (pos 0) (h 0 p) (settled_start arcs n p i s e);
+      zeroed = one_value (get_or s.sums 0 None) (t 0) (pos 0) (h 0 p) (settled_start arcs n p i s e);
       all = λ a m. settled_solves a m (t a.from) (t a.to) (h a.from (i a m).0) (h a.to (i a m).1);
     },
     λ u q v l. below_settled u q v (t v) (h v l),

@@ -1,14 +1,15 @@
 -- What holds of a parent and of a chain of parents: followed back, the sums differ by at most what the arcs add. Assumes nothing.
+use Rattle.std.specs.Prelude.{Option, None, Some}
 use Prim.Native.Nat.{ℕ, zero, suc, ◌+◌, ◌≤◌, ◌<◌}
 use native.Mathlib.Omega.{arith}
 use mathlib.Core.Path.{◌≡◌, refl, ap, sym, subst}
 use mathlib.Core.Logic.{◌≢◌, ⊎_elim}
 use mathlib.Core.List.Memᴰ
 use mathlib.Core.List.{List, [], ◌∷◌, Memᴰ}
-use mathlib.Core.Option.{Option, none, some, none-ne-some, some-injective}
 use lib.IntN.{ℤ, pos, ◌+ℤ◌}
 use lib.Signed.{◌≤ℤ◌, ◌<ℤ◌}
 use lib.ListN.{length, get_or}
+use Rattle.laws.proofs.Options.{none-ne-some, some-injective}
 use Rattle.laws.proofs.Members.{at_place, none_there}
 use Rattle.walks.specs.Walks.{Arc}
 use Rattle.walks.specs.Passes.{Sums, sums}
@@ -21,36 +22,36 @@ use Rattle.laws.proofs.Signed.{signed, sum}
 -- ---- steps back
 
 -- a parent that is not missing is there
-pub some_parent : (o : Option ℕ) (P : Type 0) → o ≢ none → ((i : ℕ) → o ≡ some i → P) → P
-some_parent none P h f = absurd (h refl)
-some_parent (some i) P h f = f i refl
+pub some_parent : (o : Option ℕ) (P : Type 0) → o ≢ None → ((i : ℕ) → o ≡ Some i → P) → P
+some_parent None P h f = absurd (h refl)
+some_parent (Some i) P h f = f i refl
 
 module _ (arcs : List Arc) (ps : Parents) where
   -- one step back from an event with a parent, and the first arc of its trail
-  before_at : (v i : ℕ) → get_or ps v none ≡ some i → before arcs ps v ≡ (arc arcs i).from
+  before_at : (v i : ℕ) → get_or ps v None ≡ Some i → before arcs ps v ≡ (arc arcs i).from
   unfolding before
-  before_at v i e = ap (λ (o : Option ℕ). elim o [ none ↦ v | some z ↦ (arc arcs z).from ]) e
+  before_at v i e = ap (λ (o : Option ℕ). elim o [ None ↦ v | Some z ↦ (arc arcs z).from ]) e
 
-  pub back_at : (j v i : ℕ) → get_or ps v none ≡ some i → steps_back arcs ps (suc j) v ≡ steps_back arcs ps j (arc arcs i).from
+  pub back_at : (j v i : ℕ) → get_or ps v None ≡ Some i → steps_back arcs ps (suc j) v ≡ steps_back arcs ps j (arc arcs i).from
   unfolding repeated
   back_at j v i e = ap (repeated (before arcs ps) j) (before_at v i e)
 
-  pub trail_at : (j v i : ℕ) → get_or ps v none ≡ some i → trail arcs ps (suc j) v ≡ arc arcs i ∷ trail arcs ps j (arc arcs i).from
+  pub trail_at : (j v i : ℕ) → get_or ps v None ≡ Some i → trail arcs ps (suc j) v ≡ arc arcs i ∷ trail arcs ps j (arc arcs i).from
   unfolding trail
-  trail_at j v i e = ap (λ (o : Option ℕ). elim o [ none ↦ [] | some z ↦ arc arcs z ∷ trail arcs ps j (arc arcs z).from ]) e
+  trail_at j v i e = ap (λ (o : Option ℕ). elim o [ None ↦ [] | Some z ↦ arc arcs z ∷ trail arcs ps j (arc arcs z).from ]) e
 
   -- what holds of the events back from v holds of those back from the event before it
-  later : (j v i : ℕ) → get_or ps v none ≡ some i → ((a : ℕ) → a < suc j → get_or ps (steps_back arcs ps a v) none ≢ none)
-      → (a : ℕ) → a < j → get_or ps (steps_back arcs ps a (arc arcs i).from) none ≢ none
+  later : (j v i : ℕ) → get_or ps v None ≡ Some i → ((a : ℕ) → a < suc j → get_or ps (steps_back arcs ps a v) None ≢ None)
+      → (a : ℕ) → a < j → get_or ps (steps_back arcs ps a (arc arcs i).from) None ≢ None
   later j v i q h a b = rw (back_at a v i q) at (h (suc a) (omega arith))
 
 module _ (arcs : List Arc) (n : ℕ) (between : Between arcs n) where
   -- the sum and the parent of v after k passes
   abbrev pub sum_at : ℕ → ℕ → Option ℤ
-  sum_at k v = get_or (sums arcs n k) v none
+  sum_at k v = get_or (sums arcs n k) v None
 
   abbrev pub parent_at : ℕ → ℕ → Option ℕ
-  parent_at k v = get_or (parents arcs n k) v none
+  parent_at k v = get_or (parents arcs n k) v None
 
   -- the pass that last raised an event: 0 where none has
   rank : {old : Sums} {ps : Parents} {v : ℕ} {o : Option ℤ} {q : Option ℕ} → Outcome arcs old ps v o q → ℕ → ℕ → ℕ
@@ -78,16 +79,16 @@ module _ (arcs : List Arc) (n : ℕ) (between : Between arcs n) where
     pub to : (arc arcs i).to ≡ v
     pub su : ℤ
     pub sv : ℤ
-    pub u_is : ou ≡ some su
-    pub v_is : ov ≡ some sv
+    pub u_is : ou ≡ Some su
+    pub v_is : ov ≡ Some sv
     pub le : sv ≤ℤ (su +ℤ (arc arcs i).adds)
     pub tie : sv ≡ su +ℤ (arc arcs i).adds → lu < lv
 
   -- one pass more: the parent gives v its sum, or its beginning is raised, or nothing changes
   parent_arc_after : (k v i : ℕ) {ov : Option ℤ} {qv : Option ℕ} (wv : Outcome arcs (sums arcs n k) (parents arcs n k) v ov qv)
       {ou : Option ℤ} {qu : Option ℕ} (wu : Outcome arcs (sums arcs n k) (parents arcs n k) (arc arcs i).from ou qu)
-      → (parent_at k v ≡ some i → ParentArc i v (sum_at k (arc arcs i).from) (sum_at k v) (last k (arc arcs i).from) (last k v))
-      → qv ≡ some i
+      → (parent_at k v ≡ Some i → ParentArc i v (sum_at k (arc arcs i).from) (sum_at k v) (last k (arc arcs i).from) (last k v))
+      → qv ≡ Some i
       → ParentArc i v ou ov (rank wu k (last k (arc arcs i).from)) (rank wv k (last k v))
   unfolding rank
   parent_arc_after k v i same same ih e = ih e
@@ -107,7 +108,7 @@ module _ (arcs : List Arc) (n : ℕ) (between : Between arcs n) where
         tie = λ q. absurd (omega (signed, sum t w, sum h.su w, h.le));
       }
   parent_arc_after k v i (rose j x l to from up) same ih e =
-      subst (λ (z : ℕ). ParentArc z v (sum_at k (arc arcs z).from) (some (x +ℤ (arc arcs j).adds)) (last k (arc arcs z).from) (suc k))
+      subst (λ (z : ℕ). ParentArc z v (sum_at k (arc arcs z).from) (Some (x +ℤ (arc arcs j).adds)) (last k (arc arcs z).from) (suc k))
       (some-injective _ _ e)
       (record {
         place = l;
@@ -122,7 +123,7 @@ module _ (arcs : List Arc) (n : ℕ) (between : Between arcs n) where
   parent_arc_after k v i (rose j x l to from up) (rose a y m to' from' up') ih e =
       let w : ℤ = (arc arcs j).adds in
       let t : ℤ = y +ℤ (arc arcs a).adds in
-      subst (λ (z : ℕ). ((r : ℤ) → sum_at k (arc arcs z).from ≡ some r → r <ℤ t) → ParentArc z v (some t) (some (x +ℤ w)) (suc k) (suc k))
+      subst (λ (z : ℕ). ((r : ℤ) → sum_at k (arc arcs z).from ≡ Some r → r <ℤ t) → ParentArc z v (Some t) (Some (x +ℤ w)) (suc k) (suc k))
       (some-injective _ _ e)
       (λ more. let r : x <ℤ t = more x from in
       record {
@@ -138,18 +139,18 @@ module _ (arcs : List Arc) (n : ℕ) (between : Between arcs n) where
       up'
 
   -- so the sum of v is at most that where its parent begins plus what that adds, and where it is just that, v was raised later
-  pub parent_arc : (k v i : ℕ) → parent_at k v ≡ some i → ParentArc i v (sum_at k (arc arcs i).from) (sum_at k v) (last k (arc arcs i).from) (last k v)
+  pub parent_arc : (k v i : ℕ) → parent_at k v ≡ Some i → ParentArc i v (sum_at k (arc arcs i).from) (sum_at k v) (last k (arc arcs i).from) (last k v)
   unfolding last parents
   parent_arc zero v i e = absurd (none_there n v i e)
   parent_arc (suc k) v i e = parent_arc_after k v i (outcome arcs n between k v) (outcome arcs n between k (arc arcs i).from) (parent_arc k v i) e
 
   -- an event without a parent has the sum that it started with: one pass more, and so all
   root : (k v : ℕ) {o : Option ℤ} {q : Option ℕ} → Outcome arcs (sums arcs n k) (parents arcs n k) v o q
-      → (parent_at k v ≡ none → sum_at k v ≡ sum_at 0 v) → q ≡ none → o ≡ sum_at 0 v
+      → (parent_at k v ≡ None → sum_at k v ≡ sum_at 0 v) → q ≡ None → o ≡ sum_at 0 v
   root k v same ih e = ih e
   root k v (rose i x l to from up) ih e = absurd (none-ne-some _ (sym e))
 
-  pub rooted : (k v : ℕ) → parent_at k v ≡ none → sum_at k v ≡ sum_at 0 v
+  pub rooted : (k v : ℕ) → parent_at k v ≡ None → sum_at k v ≡ sum_at 0 v
   rooted zero v e = refl
   rooted (suc k) v e = root k v (outcome arcs n between k v) (rooted k v) e
 
@@ -158,7 +159,7 @@ module _ (arcs : List Arc) (n : ℕ) (between : Between arcs n) where
   -- j steps back from v, whose sum is sv, to x along l: they add at least the difference of the sums, and where they add just that each step goes to an earlier pass
   pub record ParentChain (k j v : ℕ) (sv : ℤ) (x : ℕ) (l : List Arc) : Type 0 where
     pub end : ℤ
-    pub is : sum_at k x ≡ some end
+    pub is : sum_at k x ≡ Some end
     pub of_arcs : (a : Arc) → Memᴰ a l → Memᴰ a arcs
     pub walk : Back v x l
     pub long : length l ≡ j
@@ -171,7 +172,7 @@ module _ (arcs : List Arc) (n : ℕ) (between : Between arcs n) where
   all_of a l m h b q = ⊎_elim (λ (e : b ≡ a). subst (λ (z : Arc). Memᴰ z arcs) (sym e) m) (λ t. h b t) (Memᴰ.cases_cons q)
 
   -- a chain goes on by a parent
-  one_more : (k j v i : ℕ) (su sv : ℤ) (x : ℕ) (l : List Arc) → sum_at k v ≡ some sv → sum_at k (arc arcs i).from ≡ some su
+  one_more : (k j v i : ℕ) (su sv : ℤ) (x : ℕ) (l : List Arc) → sum_at k v ≡ Some sv → sum_at k (arc arcs i).from ≡ Some su
       → ParentArc i v (sum_at k (arc arcs i).from) (sum_at k v) (last k (arc arcs i).from) (last k v)
       → ParentChain k j (arc arcs i).from su x l
       → ParentChain k (suc j) v sv x (arc arcs i ∷ l)
@@ -197,7 +198,7 @@ module _ (arcs : List Arc) (n : ℕ) (between : Between arcs n) where
       }
 
   -- as long as there are parents
-  pub parent_chain : (k j v : ℕ) (sv : ℤ) → sum_at k v ≡ some sv → ((i : ℕ) → i < j → parent_at k (steps_back arcs (parents arcs n k) i v) ≢ none)
+  pub parent_chain : (k j v : ℕ) (sv : ℤ) → sum_at k v ≡ Some sv → ((i : ℕ) → i < j → parent_at k (steps_back arcs (parents arcs n k) i v) ≢ None)
       → ParentChain k j v sv (steps_back arcs (parents arcs n k) j v) (trail arcs (parents arcs n k) j v)
   unfolding repeated trail total
   parent_chain k zero v sv e h =

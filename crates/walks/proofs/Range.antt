@@ -1,10 +1,10 @@
 -- How far the sums go: k arcs that add at most W either way give a sum of at most k * W either way. Assumes nothing.
+use Rattle.std.specs.Prelude.{None, Some}
 use Prim.Native.Nat.{ℕ, ◌*◌, ◌≤◌}
 use native.Mathlib.Nat.{mul-le-mul_right}
 use native.Mathlib.Omega.{arith}
 use mathlib.Core.Path.{◌≡◌}
 use mathlib.Core.List.{List, Memᴰ}
-use mathlib.Core.Option.{none, some}
 use lib.IntN.{ℤ}
 use lib.ListN.{get_or}
 use Rattle.walks.specs.Walks.{Arc, Walk, stay, go, WalkWithin}
@@ -26,7 +26,7 @@ module _ (arcs : List Arc) (W : ℕ) (each : (a : Arc) → Memᴰ a arcs → Wit
       record { above = omega (arith, up_sum w a.adds); under = omega (arith, dn_sum w a.adds) }
 
   -- a sum after k passes is that of a walk of at most k arcs
-  pub sums_within : (n k v : ℕ) (x : ℤ) → get_or (sums arcs n k) v none ≡ some x → Within (k * W) x
+  pub sums_within : (n k v : ℕ) (x : ℤ) → get_or (sums arcs n k) v None ≡ Some x → Within (k * W) x
   sums_within n k v x e =
       let r : WalkWithin arcs k v x = some_equal arcs n k v x e in
       wider x (r.count * W) (k * W) (mul-le-mul_right W r.fits) (walk_within r.count v x r.walk)

@@ -1,11 +1,11 @@
 -- Sums, pass numbers, parents and a certificate of some graphs. Assumes nothing.
+use Rattle.std.specs.Prelude.{None, Some}
 use Prim.Native.Nat.{ℕ, zero, suc, ◌<◌}
 use native.Mathlib.Omega.{arith}
 use mathlib.Core.Path.{◌≡◌, refl, sym, subst}
 use mathlib.Core.Logic.{⊎_elim}
 use mathlib.Core.List.Memᴰ
 use mathlib.Core.List.{List, [], ◌∷◌, Memᴰ}
-use mathlib.Core.Option.{none, some}
 use lib.IntN.{ℤ, pos, negsuc, ◌+ℤ◌}
 use lib.Signed.{◌≤ℤ◌, le_z_yes}
 use Rattle.walks.specs.Walks.{Arc}
@@ -21,11 +21,11 @@ line : List Arc
 line = arc 2 3 (pos 4) ∷ arc 1 2 (pos 3) ∷ arc 0 1 (pos 2) ∷ arc 0 3 (pos 8) ∷ arc 3 2 (negsuc 8) ∷ arc 4 0 (pos 1) ∷ []
 
 line_sums : sums line 5 0 ∷ sums line 5 1 ∷ sums line 5 2 ∷ sums line 5 3 ∷ sums line 5 4 ∷ []
-    ≡ (some (pos 0) ∷ none ∷ none ∷ none ∷ none ∷ [])
-    ∷ (some (pos 0) ∷ some (pos 2) ∷ none ∷ some (pos 8) ∷ none ∷ [])
-    ∷ (some (pos 0) ∷ some (pos 2) ∷ some (pos 5) ∷ some (pos 8) ∷ none ∷ [])
-    ∷ (some (pos 0) ∷ some (pos 2) ∷ some (pos 5) ∷ some (pos 9) ∷ none ∷ [])
-    ∷ (some (pos 0) ∷ some (pos 2) ∷ some (pos 5) ∷ some (pos 9) ∷ none ∷ [])
+    ≡ (Some (pos 0) ∷ None ∷ None ∷ None ∷ None ∷ [])
+    ∷ (Some (pos 0) ∷ Some (pos 2) ∷ None ∷ Some (pos 8) ∷ None ∷ [])
+    ∷ (Some (pos 0) ∷ Some (pos 2) ∷ Some (pos 5) ∷ Some (pos 8) ∷ None ∷ [])
+    ∷ (Some (pos 0) ∷ Some (pos 2) ∷ Some (pos 5) ∷ Some (pos 9) ∷ None ∷ [])
+    ∷ (Some (pos 0) ∷ Some (pos 2) ∷ Some (pos 5) ∷ Some (pos 9) ∷ None ∷ [])
     ∷ []
 unfolding open_passes arc line
 line_sums = refl
@@ -37,16 +37,16 @@ gain = arc 0 1 (pos 2) ∷ arc 1 0 (negsuc 0) ∷ []
 even : List Arc
 even = arc 0 1 (pos 2) ∷ arc 1 0 (negsuc 1) ∷ []
 
-numbers : pass_number line 5 ∷ pass_number gain 2 ∷ pass_number even 2 ∷ pass_number [] 3 ∷ [] ≡ some 3 ∷ none ∷ some 1 ∷ some 0 ∷ []
+numbers : pass_number line 5 ∷ pass_number gain 2 ∷ pass_number even 2 ∷ pass_number [] 3 ∷ [] ≡ Some 3 ∷ None ∷ Some 1 ∷ Some 0 ∷ []
 unfolding open_passes arc line gain even
 numbers = refl
 
 -- the arc that raised an event last is its parent: 3 gets another in the third pass; the start has none
 line_parents : parents line 5 0 ∷ parents line 5 1 ∷ parents line 5 2 ∷ parents line 5 3 ∷ []
-    ≡ (none ∷ none ∷ none ∷ none ∷ none ∷ [])
-    ∷ (none ∷ some 2 ∷ none ∷ some 3 ∷ none ∷ [])
-    ∷ (none ∷ some 2 ∷ some 1 ∷ some 3 ∷ none ∷ [])
-    ∷ (none ∷ some 2 ∷ some 1 ∷ some 0 ∷ none ∷ [])
+    ≡ (None ∷ None ∷ None ∷ None ∷ None ∷ [])
+    ∷ (None ∷ Some 2 ∷ None ∷ Some 3 ∷ None ∷ [])
+    ∷ (None ∷ Some 2 ∷ Some 1 ∷ Some 3 ∷ None ∷ [])
+    ∷ (None ∷ Some 2 ∷ Some 1 ∷ Some 0 ∷ None ∷ [])
     ∷ []
 unfolding open_passes open_parents arc line
 line_parents = refl
@@ -55,7 +55,7 @@ line_parents = refl
 tie : List Arc
 tie = arc 0 1 (pos 2) ∷ arc 0 1 (pos 2) ∷ []
 
-tie_parents : parents tie 2 1 ≡ none ∷ some 0 ∷ []
+tie_parents : parents tie 2 1 ≡ None ∷ Some 0 ∷ []
 unfolding open_passes open_parents arc tie
 tie_parents = refl
 

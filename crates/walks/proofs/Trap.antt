@@ -1,13 +1,14 @@
 -- An event raised by as many passes as there are events leads back to a cycle of parents that gains. Assumes nothing.
+use Rattle.std.specs.Prelude.{Option, None, Some}
 use Prim.Native.Nat.{ℕ, zero, suc, ◌+◌, ◌≤◌, ◌<◌}
 use native.Mathlib.Omega.{arith}
 use mathlib.Core.Path.{◌≡◌, refl, sym, ◌∙◌, subst}
 use mathlib.Core.Logic.{◌≢◌, ⊎_elim}
 use mathlib.Core.List.{List, [], ◌∷◌, Memᴰ}
-use mathlib.Core.Option.{Option, none, some, none-ne-some, some-injective}
 use lib.IntN.{ℤ, pos, ◌+ℤ◌}
 use lib.Signed.{◌<ℤ◌}
 use lib.ListN.{length, get_or}
+use Rattle.laws.proofs.Options.{none-ne-some, some-injective}
 use Rattle.laws.proofs.Members.{at_place, none_there}
 use Rattle.walks.specs.Walks.{Arc, Walk, stay, go}
 use Rattle.walks.specs.Passes.{at_start, sums}
@@ -22,12 +23,12 @@ use Rattle.walks.proofs.Parents.{some_parent, sum_at, parent_at, parent_arc, roo
 use Rattle.laws.proofs.Signed.{signed, sum, lt_or_le}
 
 -- whether an event has no parent
-none? : (o : Option ℕ) → Dec (o ≡ none)
-none? none = yes refl
-none? (some i) = no (λ e. none-ne-some _ (sym e))
+None? : (o : Option ℕ) → Dec (o ≡ None)
+None? None = yes refl
+None? (Some i) = no (λ e. none-ne-some _ (sym e))
 
 -- before the first pass only the start has a sum, and that is 0
-start_at : (n x : ℕ) (s : ℤ) → get_or (at_start n) x none ≡ some s → (x ≡ 0) × (s ≡ pos 0)
+start_at : (n x : ℕ) (s : ℤ) → get_or (at_start n) x None ≡ Some s → (x ≡ 0) × (s ≡ pos 0)
 unfolding at_start
 start_at zero x s e = absurd (none-ne-some _ e)
 start_at (suc n) zero s e = (refl, sym (some-injective _ _ e))
@@ -49,8 +50,8 @@ module _ (arcs : List Arc) (n : ℕ) (p : 0 < n) (between : Between arcs n) wher
   -- pass k + 1 gives v a sum that is more than any it had
   record Rise (k v : ℕ) (o : Option ℤ) : Type 0 where
     top : ℤ
-    is : o ≡ some top
-    more : (r : ℤ) → sum_at arcs n between k v ≡ some r → r <ℤ top
+    is : o ≡ Some top
+    more : (r : ℤ) → sum_at arcs n between k v ≡ Some r → r <ℤ top
 
   -- a change is a rise
   rise : (k v : ℕ) {o : Option ℤ} {q : Option ℕ} → Outcome arcs (sums arcs n k) (parents arcs n k) v o q → o ≢ sum_at arcs n between k v → Rise k v o
@@ -62,21 +63,21 @@ module _ (arcs : List Arc) (n : ℕ) (p : 0 < n) (between : Between arcs n) wher
   unfolding before
   inside k u h = by (parent_at arcs n between k u) refl
     where
-      by : (o : Option ℕ) → parent_at arcs n between k u ≡ o → elim o [ none ↦ u | some i ↦ (arc arcs i).from ] < n
-      by none e = h
-      by (some i) e = (between (arc arcs i) (at_place arcs i no_arc (parent_arc arcs n between k u i e).place)).0
+      by : (o : Option ℕ) → parent_at arcs n between k u ≡ o → elim o [ None ↦ u | Some i ↦ (arc arcs i).from ] < n
+      by None e = h
+      by (Some i) e = (between (arc arcs i) (at_place arcs i no_arc (parent_arc arcs n between k u i e).place)).0
 
   -- an event without a parent j steps back, j at most k, would be the start, with a walk of j arcs whose sum is at least the new one
   no_root : (k v j : ℕ) → j ≤ k → Rise k v (sum_at arcs n between (suc k) v)
-      → ((i : ℕ) → i < j → parent_at arcs n between (suc k) (steps_back arcs (parents arcs n (suc k)) i v) ≢ none)
-      → parent_at arcs n between (suc k) (steps_back arcs (parents arcs n (suc k)) j v) ≢ none
+      → ((i : ℕ) → i < j → parent_at arcs n between (suc k) (steps_back arcs (parents arcs n (suc k)) i v) ≢ None)
+      → parent_at arcs n between (suc k) (steps_back arcs (parents arcs n (suc k)) j v) ≢ None
   unfolding sums
   no_root k v j b r h e =
       let ps : Parents = parents arcs n (suc k) in
       let x : ℕ = steps_back arcs ps j v in
       let l : List Arc = trail arcs ps j v in
       let c : ParentChain arcs n between (suc k) j v r.top x l = parent_chain arcs n between (suc k) j v r.top r.is h in
-      let s : get_or (at_start n) x none ≡ some c.end = sym (rooted arcs n between (suc k) x e) ∙ c.is in
+      let s : get_or (at_start n) x None ≡ Some c.end = sym (rooted arcs n between (suc k) x e) ∙ c.is in
       let z : (x ≡ 0) × (c.end ≡ pos 0) = start_at n x c.end s in
       let (w, walk, q) = back_walk arcs v l (subst (λ (y : ℕ). Back v y l) z.0 c.walk) c.of_arcs in
       let a : AtLeast (sum_at arcs n between k v) w = none_greater arcs n k (length l) v w p (ends_below arcs n between) walk (omega (arith, c.long)) in
@@ -85,18 +86,18 @@ module _ (arcs : List Arc) (n : ℕ) (p : 0 < n) (between : Between arcs n) wher
 
   -- so each of the first k + 1 events back has a parent
   unrooted : (k v : ℕ) → Rise k v (sum_at arcs n between (suc k) v)
-      → (j : ℕ) → j < suc k → parent_at arcs n between (suc k) (steps_back arcs (parents arcs n (suc k)) j v) ≢ none
+      → (j : ℕ) → j < suc k → parent_at arcs n between (suc k) (steps_back arcs (parents arcs n (suc k)) j v) ≢ None
   unrooted k v r =
-      by (first (λ j. parent_at arcs n between (suc k) (steps_back arcs (parents arcs n (suc k)) j v) ≡ none)
-      (λ j. none? (parent_at arcs n between (suc k) (steps_back arcs (parents arcs n (suc k)) j v))) (suc k))
+      by (first (λ j. parent_at arcs n between (suc k) (steps_back arcs (parents arcs n (suc k)) j v) ≡ None)
+      (λ j. None? (parent_at arcs n between (suc k) (steps_back arcs (parents arcs n (suc k)) j v))) (suc k))
     where
-      by : FirstBelow (λ j. parent_at arcs n between (suc k) (steps_back arcs (parents arcs n (suc k)) j v) ≡ none) (suc k)
-          → (j : ℕ) → j < suc k → parent_at arcs n between (suc k) (steps_back arcs (parents arcs n (suc k)) j v) ≢ none
+      by : FirstBelow (λ j. parent_at arcs n between (suc k) (steps_back arcs (parents arcs n (suc k)) j v) ≡ None) (suc k)
+          → (j : ℕ) → j < suc k → parent_at arcs n between (suc k) (steps_back arcs (parents arcs n (suc k)) j v) ≢ None
       by (found i b e l) = absurd (no_root k v i (omega arith) r l e)
       by (nowhere h) = h
 
   -- a closed chain of parents gains: if it did not, each step would go to an earlier pass, and the last to the first
-  closed_gains : (k j x : ℕ) → 0 < j → ((i : ℕ) → parent_at arcs n between k (steps_back arcs (parents arcs n k) i x) ≢ none)
+  closed_gains : (k j x : ℕ) → 0 < j → ((i : ℕ) → parent_at arcs n between k (steps_back arcs (parents arcs n k) i x) ≢ None)
       → steps_back arcs (parents arcs n k) j x ≡ x
       → ((a : Arc) → Memᴰ a (trail arcs (parents arcs n k) j x) → Memᴰ a arcs) × Back x x (trail arcs (parents arcs n k) j x)
       × (length (trail arcs (parents arcs n k) j x) ≡ j)
@@ -122,7 +123,7 @@ module _ (arcs : List Arc) (n : ℕ) (p : 0 < n) (between : Between arcs n) wher
       ))
 
   -- so an event that pass n changes leads back to a cycle of parents that gains
-  pub raised_trapped : (k v : ℕ) → suc k ≡ n → v < n → get_or (sums arcs n (suc k)) v none ≢ get_or (sums arcs n k) v none
+  pub raised_trapped : (k v : ℕ) → suc k ≡ n → v < n → get_or (sums arcs n (suc k)) v None ≢ get_or (sums arcs n k) v None
       → Trapped arcs n (parents arcs n (suc k)) v
   raised_trapped k v e b up =
       record { parented = all; cyclic = cyc; of_arcs = gain.0; closed = gain.1; long = gain.2; gains = gain.3 }
@@ -133,15 +134,15 @@ module _ (arcs : List Arc) (n : ℕ) (p : 0 < n) (between : Between arcs n) wher
       x : ℕ
       x = steps_back arcs ps n v
 
-      all : (j : ℕ) → get_or ps (steps_back arcs ps j v) none ≢ none
+      all : (j : ℕ) → get_or ps (steps_back arcs ps j v) None ≢ None
       all =
-          forever (before arcs ps) n v (inside (suc k)) b (λ u. get_or ps u none ≢ none)
+          forever (before arcs ps) n v (inside (suc k)) b (λ u. get_or ps u None ≢ None)
           (λ j c. unrooted k v (rise k v (outcome arcs n between k v) up) j (omega arith))
 
       cyc : Cyclic (before arcs ps) n x
       cyc = lands (before arcs ps) n v (inside (suc k)) b
 
-      from_x : (i : ℕ) → get_or ps (steps_back arcs ps i x) none ≢ none
+      from_x : (i : ℕ) → get_or ps (steps_back arcs ps i x) None ≢ None
       from_x i = rw (repeated_add (before arcs ps) n i v) at (all (n + i))
 
       gain : ((a : Arc) → Memᴰ a (trail arcs ps cyc.period x) → Memᴰ a arcs) × Back x x (trail arcs ps cyc.period x)

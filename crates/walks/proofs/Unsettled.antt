@@ -1,4 +1,5 @@
 -- Sums that do not settle show a positive cycle, found along the parents; so where there is a solution they settle. Assumes nothing.
+use Rattle.std.specs.Prelude.{Option, None, Some}
 use Prim.Native.Nat.{ℕ, zero, suc, ◌+◌, ◌-◌, ◌≤◌, ◌<◌}
 use native.Mathlib.Nat.{eq-or-lt_of_le}
 use native.Mathlib.Omega.{arith}
@@ -7,12 +8,12 @@ use mathlib.Core.Logic.{◌≢◌, ⊎_elim}
 use mathlib.Core.Bool.{Bool, true, false}
 use mathlib.Core.List.Memᴰ
 use mathlib.Core.List.{List, [], ◌∷◌, Memᴰ}
-use mathlib.Core.Option.{Option, none, some, none-ne-some}
 use mathlib.Core.Option as Opt
 use lib.Dec.{T}
 use lib.IntN.{ℤ, pos, ℤ_discrete}
 use lib.Signed.{◌<ℤ◌}
 use lib.ListN.{length, get_or}
+use Rattle.laws.proofs.Options.{none-ne-some, option_discrete}
 use Rattle.walks.specs.Walks.{Arc}
 use Rattle.walks.specs.Passes.{sums, first_agreeing, pass_number, Settled, settled}
 use Rattle.walks.specs.Parents.{Parents, parents, repeated, steps_back, trail, Trapped}
@@ -28,15 +29,15 @@ use Rattle.walks.proofs.Cycle.{cycle_excludes}
 
 module _ (arcs : List Arc) (ps : Parents) where
   -- where the trail is as long as its steps, the first event has a parent
-  has_parent : (j u : ℕ) → length (trail arcs ps (suc j) u) ≡ suc j → (i : ℕ) × (get_or ps u none ≡ some i)
+  has_parent : (j u : ℕ) → length (trail arcs ps (suc j) u) ≡ suc j → (i : ℕ) × (get_or ps u None ≡ Some i)
   unfolding trail
-  has_parent j u l = by (get_or ps u none) refl l
+  has_parent j u l = by (get_or ps u None) refl l
     where
-      by : (o : Option ℕ) → get_or ps u none ≡ o
-          → length {A = Arc} (elim o [ none ↦ [] | some i ↦ arc arcs i ∷ trail arcs ps j (arc arcs i).from ]) ≡ suc j
-          → (i : ℕ) × (get_or ps u none ≡ some i)
-      by none e l = absurd (omega arith)
-      by (some i) e l = (i, e)
+      by : (o : Option ℕ) → get_or ps u None ≡ o
+          → length {A = Arc} (elim o [ None ↦ [] | Some i ↦ arc arcs i ∷ trail arcs ps j (arc arcs i).from ]) ≡ suc j
+          → (i : ℕ) × (get_or ps u None ≡ Some i)
+      by None e l = absurd (omega arith)
+      by (Some i) e l = (i, e)
 
   -- its arcs end at the events of the steps
   ends_on : (j u w : ℕ) → Back u w (trail arcs ps j u) → length (trail arcs ps j u) ≡ j → (y : Arc) → Memᴰ y (trail arcs ps j u)
@@ -103,36 +104,36 @@ trapped_cycle arcs n ps v t =
 
 module _ (arcs : List Arc) (n : ℕ) where
   -- where no number is found, no pass of those tried changes nothing
-  never : (f k : ℕ) → first_agreeing arcs n f k ≡ none → (i : ℕ) → k ≤ i → i < k + f → ¬ T (still arcs n i)
+  never : (f k : ℕ) → first_agreeing arcs n f k ≡ None → (i : ℕ) → k ≤ i → i < k + f → ¬ T (still arcs n i)
   unfolding first_agreeing
   never zero k e i l m = absurd (omega arith)
   never (suc f) k e i l m = by (still arcs n k) refl (never f (suc k)) e
     where
-      by : (b : Bool) → still arcs n k ≡ b → (first_agreeing arcs n f (suc k) ≡ none → (i : ℕ) → suc k ≤ i → i < suc k + f → ¬ T (still arcs n i))
-          → ◌≡◌ {A = Option ℕ} (elim b [ true ↦ some k | false ↦ first_agreeing arcs n f (suc k) ]) none
+      by : (b : Bool) → still arcs n k ≡ b → (first_agreeing arcs n f (suc k) ≡ None → (i : ℕ) → suc k ≤ i → i < suc k + f → ¬ T (still arcs n i))
+          → ◌≡◌ {A = Option ℕ} (elim b [ true ↦ Some k | false ↦ first_agreeing arcs n f (suc k) ]) None
           → ¬ T (still arcs n i)
       by true q r e = absurd (none-ne-some _ (sym e))
       by false q r e = ⊎_elim (λ (h : k ≡ i). λ t. subst T q (subst (λ (x : ℕ). T (still arcs n x)) (sym h) t)) (λ h. r e i h (omega arith)) (eq-or-lt_of_le l)
 
   -- where nothing is settled no number is found
-  unsettled_none : settled arcs n ≡ none → first_agreeing arcs n n 0 ≡ none
+  unsettled_none : settled arcs n ≡ None → first_agreeing arcs n n 0 ≡ None
   unfolding settled pass_number
   unsettled_none e = by (first_agreeing arcs n n 0) e
     where
-      by : (o : Option ℕ) → ◌≡◌ {A = Option Settled} (elim o [ none ↦ none | some k ↦ some (record { passes = k; sums = sums arcs n k }) ]) none → o ≡ none
-      by none e = refl
-      by (some k) e = absurd (none-ne-some _ (sym e))
+      by : (o : Option ℕ) → ◌≡◌ {A = Option Settled} (elim o [ None ↦ None | Some k ↦ Some (record { passes = k; sums = sums arcs n k }) ]) None → o ≡ None
+      by None e = refl
+      by (Some k) e = absurd (none-ne-some _ (sym e))
 
   -- whether a pass leaves an event as it was
-  same? : (k v : ℕ) → Dec (get_or (sums arcs n (suc k)) v none ≡ get_or (sums arcs n k) v none)
-  same? k v = Opt.discrete ℤ_discrete (get_or (sums arcs n (suc k)) v none) (get_or (sums arcs n k) v none)
+  same? : (k v : ℕ) → Dec (get_or (sums arcs n (suc k)) v None ≡ get_or (sums arcs n k) v None)
+  same? k v = option_discrete ℤ_discrete (get_or (sums arcs n (suc k)) v None) (get_or (sums arcs n k) v None)
 
   module _ (p : 0 < n) (between : Between arcs n) where
     -- some event is raised by pass n, and is trapped
-    pub unsettled_trapped : settled arcs n ≡ none → (v : ℕ) × Trapped arcs n (parents arcs n n) v
+    pub unsettled_trapped : settled arcs n ≡ None → (v : ℕ) × Trapped arcs n (parents arcs n n) v
     unsettled_trapped e = at (n - 1) (omega arith)
       where
-        by : (k : ℕ) → suc k ≡ n → FirstBelow (λ v. ¬ (get_or (sums arcs n (suc k)) v none ≡ get_or (sums arcs n k) v none)) n
+        by : (k : ℕ) → suc k ≡ n → FirstBelow (λ v. ¬ (get_or (sums arcs n (suc k)) v None ≡ get_or (sums arcs n k) v None)) n
             → (v : ℕ) × Trapped arcs n (parents arcs n (suc k)) v
         by k q (found v l h b) = (v, raised_trapped arcs n p between k v q l h)
         by k q (nowhere h) = absurd (never n 0 (unsettled_none e) k (omega arith) (omega arith) (agrees_of arcs n k (same_everywhere arcs n k (λ v l. sym (sure (h v l) (same? k v))))))
@@ -140,12 +141,12 @@ module _ (arcs : List Arc) (n : ℕ) where
         at : (k : ℕ) → suc k ≡ n → (v : ℕ) × Trapped arcs n (parents arcs n n) v
         at k q =
             subst (λ (m : ℕ). (v : ℕ) × Trapped arcs n (parents arcs n m) v) q
-            (by k q (first (λ v. ¬ (get_or (sums arcs n (suc k)) v none ≡ get_or (sums arcs n k) v none)) (λ v. not? (same? k v)) n))
+            (by k q (first (λ v. ¬ (get_or (sums arcs n (suc k)) v None ≡ get_or (sums arcs n k) v None)) (λ v. not? (same? k v)) n))
 
     -- so there is a positive cycle
-    pub unsettled_cycle : settled arcs n ≡ none → PositiveCycle arcs n
+    pub unsettled_cycle : settled arcs n ≡ None → PositiveCycle arcs n
     unsettled_cycle e = let (v, t) = unsettled_trapped e in (trapped_cycle arcs n (parents arcs n n) v t).0
 
     -- which a solution excludes
-    pub solution_settles : (t : ℕ → ℤ) → Solves arcs t → ¬ (settled arcs n ≡ none)
+    pub solution_settles : (t : ℕ → ℤ) → Solves arcs t → ¬ (settled arcs n ≡ None)
     solution_settles t h e = cycle_excludes arcs n t (unsettled_cycle e) h.all

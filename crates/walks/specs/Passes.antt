@@ -1,8 +1,7 @@
 -- The greatest sums over walks, computed pass by pass, and the first pass that changes nothing.
 -- `proofs.Greatest` shows that the sums are the greatest of `Walks`.
 -- Assumes nothing.
-use Rattle.std.specs.Prelude.{ℕ, zero, suc, Bool, true, false, ◌&&◌, cond, List, [], ◌∷◌, eqb, get_or, set, replicate, ℤ, pos, negsuc, ◌+ℤ◌}
-use Rattle.std.proofs.Math.Option.{Option, none, some}
+use Rattle.std.specs.Prelude.{ℕ, zero, suc, Bool, true, false, ◌&&◌, cond, List, [], ◌∷◌, eqb, get_or, set, replicate, ℤ, pos, negsuc, ◌+ℤ◌, Option, None, Some}
 use Rattle.std.specs.Int.Signed.{lt_z}
 use Rattle.walks.specs.Walks.{Arc}
 
@@ -12,18 +11,18 @@ Sums = List (Option ℤ)
 
 -- the greater of two sums; none is below all
 unfoldable pub greater : Option ℤ → Option ℤ → Option ℤ
-greater none y = y
-greater (some x) none = some x
-greater (some x) (some y) = cond (lt_z x y) (some y) (some x)
+greater None y = y
+greater (Some x) None = Some x
+greater (Some x) (Some y) = cond (lt_z x y) (Some y) (Some x)
 
 -- a sum and one arc more
 unfoldable pub plus : Option ℤ → ℤ → Option ℤ
-plus none w = none
-plus (some x) w = some (x +ℤ w)
+plus None w = None
+plus (Some x) w = Some (x +ℤ w)
 
 -- one arc at the end of a walk: old has the sums before this pass, new those found in it so far
 unfoldable pub raise : Sums → Sums → Arc → Sums
-raise old new a = set new a.to (greater (get_or new a.to none) (plus (get_or old a.from none) a.adds))
+raise old new a = set new a.to (greater (get_or new a.to None) (plus (get_or old a.from None) a.adds))
 
 -- each arc in its turn
 unfoldable pub raise_all : List Arc → Sums → Sums → Sums
@@ -37,7 +36,7 @@ pass arcs old = raise_all arcs old old
 -- those of walks of no bound: over n events, 0 at the start and none elsewhere
 unfoldable pub at_start : ℕ → Sums
 at_start zero = []
-at_start (suc n) = some (pos 0) ∷ replicate n none
+at_start (suc n) = Some (pos 0) ∷ replicate n None
 
 -- "the greatest sums over walks from the start of at most k bounds", over n events
 unfoldable pub sums : List Arc → ℕ → ℕ → Sums
@@ -53,10 +52,10 @@ same_number (negsuc a) (negsuc b) = eqb a b
 
 -- two sums are the same, or there is none in both
 unfoldable pub same_sum : Option ℤ → Option ℤ → Bool
-same_sum none none = true
-same_sum none (some y) = false
-same_sum (some x) none = false
-same_sum (some x) (some y) = same_number x y
+same_sum None None = true
+same_sum None (Some y) = false
+same_sum (Some x) None = false
+same_sum (Some x) (Some y) = same_number x y
 
 -- they "agree at every event"
 unfoldable pub agree : Sums → Sums → Bool
@@ -67,9 +66,9 @@ agree (x ∷ xs) (y ∷ ys) = same_sum x y && agree xs ys
 
 -- the smallest of the f numbers from k on at which they agree
 unfoldable pub first_agreeing : List Arc → ℕ → ℕ → ℕ → Option ℕ
-first_agreeing arcs n zero k = none
+first_agreeing arcs n zero k = None
 first_agreeing arcs n (suc f) k =
-    elim (agree (sums arcs n k) (sums arcs n (suc k))) [ true ↦ some k | false ↦ first_agreeing arcs n f (suc k) ]
+    elim (agree (sums arcs n k) (sums arcs n (suc k))) [ true ↦ Some k | false ↦ first_agreeing arcs n f (suc k) ]
 
 -- the number of passes: "It is below the number of events"; none where the sums grow for ever
 unfoldable pub pass_number : List Arc → ℕ → Option ℕ
@@ -83,7 +82,7 @@ pub record Settled : Type 0 where
 -- the sums of the first pass that changes nothing
 unfoldable pub settled : List Arc → ℕ → Option Settled
 settled arcs n =
-    elim (pass_number arcs n) [ none ↦ none | some k ↦ some (record { passes = k; sums = sums arcs n k }) ]
+    elim (pass_number arcs n) [ None ↦ None | Some k ↦ Some (record { passes = k; sums = sums arcs n k }) ]
 
 -- Names every definition of this module, for a proof that computes with them all.
 unfoldable pub open_passes : Unit {0}

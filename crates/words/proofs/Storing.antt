@@ -1,14 +1,15 @@
 -- A number stored and read byte by byte, one turn of a loop after the other; and numbers written one behind the other. Assumes nothing.
-use Prim.Native.Nat.{ℕ, suc, ◌+◌, ◌-◌, ◌*◌, ◌/◌, ◌%◌, ◌^◌, ◌≤◌, ◌<◌}
+use Rattle.std.proofs.lemmas.Bool.Decides.{nat_tests}
+use Prim.Native.Nat.{ℕ, zero, suc, ◌+◌, ◌-◌, ◌*◌, ◌/◌, ◌%◌, ◌^◌, ◌≤◌, ◌<◌}
 use native.Mathlib.Nat.{pow-suc, pow-le-pow_right, le-div_iff_mul-le, div-lt_iff_lt-mul, mul_comm, mul-suc}
 use native.Mathlib.Omega.{arith}
 use mathlib.Core.Path.{◌≡◌, refl, ap, sym, ◌∙◌}
-use mathlib.Core.Bool.{Bool, true, false, cond}
+use mathlib.Core.Bool.{Bool, true, cond}
 use mathlib.Core.List.{List, [], ◌∷◌, ◌++◌, append_assoc, append-nil}
 use lib.Dec.{leb}
 use lib.ListN.{length, take, drop, get_or, set, length-append, length-drop, drop_of_length-le}
 use lib.Seq.{sets, sets-eq, drop-cons, drop-drop, drop-length, get_or-take, get_or-drop, length-take-le, take_at, drop_at, take_all, take-nil}
-use borrow.Author.Tests.{le-leb, lt-leb}
+use borrow.Author.Tests.{le-leb}
 use Rattle.words.specs.Words.{little, word, words, word_at, with_word, written}
 use Rattle.words.proofs.Reading.{word_length, words_length}
 
@@ -16,10 +17,7 @@ use Rattle.words.proofs.Reading.{word_length, words_length}
 
 -- nothing is stored yet
 pub put_first : (s : List ℕ) (at k v : ℕ) → sets s (at + 0) (word (k - 0) v) ≡ sets s at (word k v)
-put_first s at k v =
-    let e : at + 0 ≡ at = omega arith in
-    let f : k - 0 ≡ k = omega arith in
-    ap (λ (j : ℕ). sets s j (word (k - 0) v)) e ∙ ap (λ (j : ℕ). sets s at (word j v)) f
+put_first s at k v = grind (arith, nat_tests)
 
 -- one byte is stored, and the rest is to come
 pub put_turn : (s : List ℕ) (at k i x : ℕ) → i < k
@@ -46,10 +44,15 @@ word_stored k s s' i v p h e =
 -- one that is not is not
 pub word_kept : (k : ℕ) (s : List ℕ) (i v : ℕ) → 0 < k → length s / k ≤ i → s ≡ with_word k s i v
 unfolding with_word
-word_kept k s i v p h =
-    let far : length s < suc i * k = (div-lt_iff_lt-mul {k = k} {x = length s} {y = suc i} p).0 (omega (arith, h)) in
-    let none_there : leb (k * suc i) (length s) ≡ false = lt-leb (k * suc i) (length s) (omega (arith, mul_comm (suc i) k)) in
-    sym (ap (λ (b : Bool). cond b (sets s (k * i) (word k v)) s) none_there)
+word_kept k s i v p h = grind (arith, nat_tests)
+
+-- numbers of no bytes are not stored
+pub word_of_none : (k : ℕ) (s : List ℕ) (i v : ℕ) → ¬ (0 < k) → s ≡ with_word k s i v
+unfolding with_word word
+word_of_none zero s i v h =
+    let there : leb (0 * suc i) (length s) ≡ true = le-leb (0 * suc i) (length s) (omega arith) in
+    sym (ap (λ (b : Bool). cond b (sets s (0 * i) []) s) there)
+word_of_none (suc k) s i v h = absurd (h (omega arith))
 
 -- ---- reading
 

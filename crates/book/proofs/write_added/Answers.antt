@@ -1,50 +1,35 @@
--- `book::write_added` meets its contract: there is no book, or its bounds are written. Assumes nothing.
-use Prim.Native.Nat.{◌≤◌}
-use native.Mathlib.Omega.{arith}
-use mathlib.Core.Path.{refl}
-use Rattle.book.proofs.Fitting.{plan, unfit_book, fits_few, refused_book, none_added, Writing, writing_of, writing_asks, all_written}
-use mathlib.Core.Bool.{not}
-use mathlib.Core.Path.{ap}
+-- `book::write_added` meets its contract: there is no book, or its bounds are put. Assumes nothing.
+use Rattle.std.specs.Prelude.{Some}
+use mathlib.Core.Path.{ap, sym, ◌∙◌}
+use Rattle.network.proofs.Putting.{puts_none, puts_placed}
+use Rattle.limits.specs.OfPaths.{plan_of}
+use Rattle.book.proofs.Fitting.{none_added, none_answer, firsts_apart, times_low, added_is, answer_is}
 use Rattle.book.proofs.write_added.Goals as goal
-use Rattle.book.proofs.write_added.Goals.{In-Clock}
 
-pub returns-then-not-first_events : goal.returns-then-not-first_events
-returns-then-not-first_events c =
+pub returns-in_err-marker : goal.returns-in_err-marker
+returns-in_err-marker c =
+    let none = c.in_err-marker.ensures in
+    let p = plan_of c.args.paths in
+    record {
+      answer = c.from_residual.ensures ∙ none_answer p _ none;
+      left = puts_none c.args.out.now c.args.k _ (none_added p _ none);
+    }
+
+pub put_all-requires-clause-by_index : goal.put_all-requires-clause-by_index
+put_all-requires-clause-by_index c =
+    let m = c.in_ok-marker.marker in firsts_apart c.args.paths c.args.log m.carts m.firsts m.counts m.clock c.in_ok-marker.ensures
+
+pub put_all-requires-clause-by_index_2 : goal.put_all-requires-clause-by_index_2
+put_all-requires-clause-by_index_2 c =
+    let m = c.in_ok-marker.marker in times_low c.args.paths c.args.log m.carts m.firsts m.counts m.clock c.in_ok-marker.ensures
+
+pub returns : goal.returns
+returns c =
+    let m = c.in_ok-marker.marker in
     let a = c.args in
-    let (the-answer, (the-left, the-left_ranges)) = none_added (plan a.carts a.steps a.cells.now) _ a.ends.now a.ranges.now
-    (unfit_book a.carts a.steps a.cells.now a.log.now a.times.now c.first_events.result c.first_events.ensures.answer (ap not c.if-not-first_events.true)) in
-    record { answer = the-answer; left = the-left; left_ranges = the-left_ranges }
-
-pub replay-x-requires : goal.replay-x-requires
-replay-x-requires c =
-    let a = c.args in
-    let few : a.carts ≤ 64 = fits_few a.carts a.steps a.cells.now c.first_events.result c.first_events.ensures.answer (ap not c.if-not-first_events.false) in
-    (few, omega (arith, few, c.first_events.auto.firsts), refl)
-
--- what is known before the bounds are written
-known : (k : In-Clock)
-    → (let a = k.args in
-    Writing a.carts a.steps a.cells.now a.log.now a.times.now k.first_events.new.firsts k.in-Clock.clock)
-known k =
-    let a = k.args in
-    writing_of a.carts a.steps a.cells.now a.log.now a.times.now k.first_events.result k.first_events.ensures.answer (ap not k.if-not-first_events.false) _
-    k.first_events.ensures.left k.first_events.auto.firsts k.replay-x.result k.replay-x.ensures.answer _ k.in-Clock.is
-
-pub write_all-requires : goal.write_all-requires
-write_all-requires c =
-    let w = known (goal.at.write_all-requires c).In-Clock in
-    let (the-by_index, the-by_index_2) = writing_asks _ _ _ _ _ _ _ w in
-    record { carts_bound = (w.few, omega (arith, w.few, w.long)); by_index = the-by_index; by_index_2 = the-by_index_2 }
-
-pub returns-in-NoBook : goal.returns-in-NoBook
-returns-in-NoBook c =
-    let a = c.args in
-    let (the-answer, (the-left, the-left_ranges)) = none_added (plan a.carts a.steps a.cells.now) _ a.ends.now a.ranges.now
-    (refused_book a.carts a.steps a.cells.now a.log.now a.times.now c.first_events.result c.first_events.ensures.answer (ap not c.if-not-first_events.false) _
-    c.first_events.ensures.left c.replay-x.result c.replay-x.ensures.answer c.in-NoBook.is) in
-    record { answer = the-answer; left = the-left; left_ranges = the-left_ranges }
-
-pub returns-in-Clock : goal.returns-in-Clock
-returns-in-Clock c =
-    let (the-answer, (the-left, the-left_ranges)) = all_written _ _ _ _ _ _ _ (known (goal.at.returns-in-Clock c).In-Clock) _ _ _ _ _ (c.write_all.ensures.answer, (c.write_all.ensures.left, c.write_all.ensures.left_ranges)) in
-    record { answer = the-answer; left = the-left; left_ranges = the-left_ranges }
+    let h = c.in_ok-marker.ensures in
+    record {
+      answer = ap Some c.put_all.ensures.answer ∙ sym (answer_is a.paths a.log m.carts m.firsts m.counts m.clock h);
+      left = puts_placed a.out.now c.put_all.new.out a.k c.place-place.result _ c.place-place.ensures.value
+          (rw (added_is a.paths a.log m.carts m.firsts m.counts m.clock h) c.put_all.ensures.put);
+    }

@@ -1,54 +1,24 @@
--- `bounds::write_finishes` meets its contract. The loop's invariant: the bounds of the carts left, stored from here on, make the arrays that are to be.
--- Assumes nothing.
-use Prim.Native.Nat.{ℕ, ◌+◌, ◌≤◌, ◌<◌}
-use native.Mathlib.Omega.{arith}
-use mathlib.Core.Path.{refl, ◌∙◌}
-use lib.ListN.{length, get_or}
-use Rattle.network.specs.Bounds.{no_earlier}
-use Rattle.network.specs.BoundArrays.{bound_ends, hi_number, bound_range}
+-- `bounds::write_finishes` meets its contract: the bounds of the carts left are yet to be put. Assumes nothing.
+use Rattle.std.proofs.Common.{arith, refl, subst, sym, ap, ◌≡◌, ◌∷◌, [], ◌+◌, ℕ, get_or}
+use Rattle.network.specs.Bounds.{Bound}
+use Rattle.network.specs.BoundArrays.{Puts}
+use Rattle.network.proofs.Putting.{putting_first, putting_more, putting_all}
 use Rattle.bounds.specs.Writing.{finish_before}
-use Rattle.network.proofs.BoundStores.{by_ends, by_range}
-use Rattle.bounds.proofs.Stores.{row_first, row_next, row_last}
+use Rattle.bounds.proofs.Whole.{row_next, row_last, finish_is}
 use Rattle.bounds.proofs.write_finishes.Goals as goal
 
 pub loop-i-init : goal.loop-i-init
-loop-i-init c =
-    let a = c.args in
-    let finish : ℕ = get_or a.firsts.now a.carts 0 in (
-      omega arith,
-      refl,
-      refl,
-      row_first bound_ends by_ends (finish_before finish) a.firsts.now 1 a.carts a.k a.ends.now,
-      row_first bound_range by_range (finish_before finish) a.firsts.now 1 a.carts a.k a.ranges.now,
-    )
+loop-i-init c = let k : c.args.k + 0 ≡ c.args.k = omega arith in putting_first _ _ _ _ _ k refl
 
-pub overflow_sub-last : goal.overflow_sub-last
-overflow_sub-last c =
-    omega (arith, c.requires.by_index c.loop-i.i c.loop-i-test.true)
+pub overflow_sub-next : goal.overflow_sub-next
+overflow_sub-next c = omega (arith, c.requires.positive c.loop-i.i c.loop-i-test.true)
 
 pub loop-i-preserved : goal.loop-i-preserved
-unfolding bound_ends bound_range hi_number finish_before no_earlier
 loop-i-preserved c =
-    let a = c.args in
-    let finish : ℕ = get_or a.firsts.now a.carts 0 in
-    let t : c.loop-i.i < a.carts = c.loop-i-test.true in
-    let h : 1 + a.carts ≤ length a.firsts.now = omega arith in (
-      omega arith,
-      c.put_bound.auto.ends ∙ c.loop-i.invariant.1,
-      c.put_bound.auto.ranges ∙ c.loop-i.invariant.2,
-      row_next bound_ends by_ends (finish_before finish) a.firsts.now 1 a.carts a.k h c.loop-i.ends c.put_bound.new.ends c.loop-i.i (c.loop-i.i + 1) t (omega arith)
-          c.put_bound.ensures.ends_after
-          ∙ c.loop-i.invariant.3,
-      row_next bound_range by_range (finish_before finish) a.firsts.now 1 a.carts a.k h c.loop-i.ranges c.put_bound.new.ranges c.loop-i.i (c.loop-i.i + 1) t (omega arith)
-          c.put_bound.ensures.ranges_after
-          ∙ c.loop-i.invariant.4,
-    )
+    let e : ℕ = get_or c.args.nexts.now c.loop-i.i 0 in
+    let f : ℕ = c.args.finish in
+    putting_more c.loop-i.invariant c.put.new.self (c.args.k + (c.loop-i.i + 1)) (finish_before f e ∷ []) _ (row_next (finish_before f) c.args.nexts.now c.loop-i.i c.loop-i-test.true)
+    (subst (Puts c.loop-i.out c.put.new.self (c.args.k + c.loop-i.i)) (ap (λ (b : Bound). b ∷ []) (sym (finish_is f e))) c.put.ensures) (omega arith)
 
 pub returns : goal.returns
-returns c =
-    let a = c.args in
-    let finish : ℕ = get_or a.firsts.now a.carts 0 in
-    let h : 1 + a.carts ≤ length a.firsts.now = omega arith in record {
-      ends_after = row_last bound_ends by_ends (finish_before finish) a.firsts.now 1 a.carts a.k h c.loop-i.ends c.loop-i.i c.loop-i-test.false ∙ c.loop-i.invariant.3;
-      ranges_after = row_last bound_range by_range (finish_before finish) a.firsts.now 1 a.carts a.k h c.loop-i.ranges c.loop-i.i c.loop-i-test.false ∙ c.loop-i.invariant.4;
-    }
+returns c = putting_all c.loop-i.invariant (row_last (finish_before c.args.finish) c.args.nexts.now c.loop-i.i c.loop-i-test.false)

@@ -1,26 +1,32 @@
 -- `bounds::write_held` meets its contract: the slice is too short, no plan is held and the arrays are cleared, or its bounds are written. Assumes nothing.
-use Prim.Native.Nat.{ℕ}
-use mathlib.Core.Path.{ap, ◌∙◌}
-use lib.ListN.{replicate}
+use Rattle.std.proofs.Common.{rules, ◌≡◌, None, Err, refl, ◌∙◌, sym}
+use Rattle.std.specs.Prelude.{Result}
+use Rattle.slice.specs.declared.HoldError.{HoldError}
+use Rattle.bounds.specs.declared.Bounding.{Bounding}
 use Rattle.bounds.proofs.Outcome.{short_plan, cleared_plan, written_plan}
 use Rattle.bounds.proofs.write_held.Goals as goal
+use Rattle.bounds.proofs.write_held.Goals.{In_ok-plan}
 
-pub returns-then-plan-lt233472 : goal.returns-then-plan-lt233472
-returns-then-plan-lt233472 c = let a = c.args in
-    let (the-answer, (the-left, the-left_ranges)) = short_plan a.plan.now a.ends.now a.ranges.now c.if-plan-lt233472.true in
-    record { answer = the-answer; left = the-left; left_ranges = the-left_ranges }
+pub returns-in_err-plan : goal.returns-in_err-plan
+returns-in_err-plan c =
+    let none : c.new.result ≡ None = search rules in
+    let is : ◌≡◌ {A = Result Bounding HoldError} c.from_residual.result (Err HoldError.TooShort) = search rules in
+    let (x, y) = short_plan c.args.plan.now c.args.out.now (c.new.ensures.short none) in record { answer = is ∙ x; left = y }
 
-pub returns-in-NoPlan : goal.returns-in-NoPlan
-returns-in-NoPlan c =
-    let a = c.args in
-    let (the-answer, (the-left, the-left_ranges)) = cleared_plan a.plan.now a.ends.now a.ranges.now c.if-plan-lt233472.false _ c.write_laid-x.ensures.answer c.in-NoPlan.is _ _
-    (c.clear_narrow.ensures ∙ ap (λ (n : ℕ). replicate n 0) c.write_laid-x.auto.ends)
-    (c.clear_ranges.ensures ∙ ap (λ (n : ℕ). replicate n 0) c.write_laid-x.auto.ranges) in
-    record { answer = the-answer; left = the-left; left_ranges = the-left_ranges }
+-- the slice that is long enough
+same : (c : In_ok-plan) → c.in_ok-plan.plan.bytes.now ≡ c.args.plan.now
+same c = c.new.ensures.there c.in_ok-plan.plan (search rules)
 
-pub returns-in_default : goal.returns-in_default
-returns-in_default c =
-    let a = c.args in
-    let (the-answer, (the-left, the-left_ranges)) = written_plan a.plan.now a.ends.now a.ranges.now c.if-plan-lt233472.false _ _ _ (c.write_laid-x.ensures.answer, (c.write_laid-x.ensures.left, c.write_laid-x.ensures.left_ranges))
-    c.in_default.not-NoPlan in
-    record { answer = the-answer; left = the-left; left_ranges = the-left_ranges }
+pub returns-then-is_err : goal.returns-then-is_err
+returns-then-is_err c =
+    let p = c.in_ok-plan.plan in
+    let (x, y) = cleared_plan p.bytes.now c.args.out.now p.long c.write_laid-x.result c.write_laid-x.new.out c.write_laid-x.ensures.answer c.write_laid-x.ensures.left
+    (sym c.is_err.ensures.value ∙ c.if-is_err.true) _ refl refl (c.fill.ensures.after (λ y e. e)) (c.fill-then-is_err.ensures.after (λ y e. e)) in
+    rw (← same (goal.at.returns-then-is_err c).In_ok-plan) (record { answer = x; left = y })
+
+pub returns-else-is_err : goal.returns-else-is_err
+returns-else-is_err c =
+    let p = c.in_ok-plan.plan in
+    let (x, y) = written_plan p.bytes.now c.args.out.now p.long c.write_laid-x.result c.write_laid-x.new.out c.write_laid-x.ensures.answer c.write_laid-x.ensures.left
+    (sym c.is_err.ensures.value ∙ c.if-is_err.false) in
+    rw (← same (goal.at.returns-else-is_err c).In_ok-plan) (record { answer = x; left = y })

@@ -1,40 +1,49 @@
 -- `bounds::write_read` meets its contract: the tables give no plan, or its bounds are written. Assumes nothing.
-use mathlib.Core.Path.{◌≡◌, sym, ◌∙◌}
-use lib.ListN.{length, replicate}
-use Rattle.tables.proofs.TablesRead.{without_index}
-use Rattle.slice.proofs.Holds.{LaidLeft, unlaid_none}
+use Rattle.std.proofs.Common.{rules, arith, ◌≡◌, ◌∙◌, sym, ap, length, Err}
+use Rattle.std.specs.Prelude.{Option, Result}
+use Rattle.std.specs.Option.{ok_or}
+use Rattle.tables.specs.Lending.{arrays_of}
+use Rattle.tables.proofs.TablesRead.{index_fits}
+use Rattle.slice.specs.declared.HoldError.{HoldError}
+use Rattle.slice.specs.HeldPlan.{Lays}
 use Rattle.slice.proofs.Indexing.{index_held}
-use Rattle.slice.proofs.LaidPlan.{never_short, not_laid, laid_there}
-use Rattle.bounds.specs.Links.{RoadsLinked}
-use Rattle.bounds.proofs.Written.{none_held}
+use Rattle.slice.proofs.LaidPlan.{laid_there}
+use Rattle.bounds.specs.declared.Bounding.{Bounding}
+use Rattle.bounds.specs.Bounding.{bounding}
+use Rattle.bounds.proofs.Written.{few_laid, unread, lays_of}
 use Rattle.bounds.proofs.write_read.Goals as goal
-use Rattle.bounds.proofs.write_read.Goals.{After-read_laid-x, In-Held}
+use Rattle.bounds.proofs.write_read.Goals.{In_ok-h}
 
--- what was read, and left in the arrays
-read : (r : After-read_laid-x)
-    → LaidLeft r.args.plan.now (replicate 4096 0) (replicate 128 0) (replicate 8192 0) r.read_laid-x.result r.read_laid-x.new.edges r.read_laid-x.new.speeds r.read_laid-x.new.cells
-read r = without_index (r.read_laid-x.ensures.answer, (r.read_laid-x.ensures.left, (r.read_laid-x.ensures.left_speeds, (r.read_laid-x.ensures.left_cells, r.read_laid-x.ensures.index))))
+-- the plan in the arrays
+lays : (c : In_ok-h) → Lays c.args.plan.bytes.now (arrays_of c.read_laid.new.arrays) c.in_ok-h.h
+lays c =
+    laid_there c.args.plan.bytes.now c.args.plan.long c.read_laid.result c.read_laid.ensures.answer (arrays_of c.read_laid.new.arrays) c.read_laid.ensures.left c.in_ok-h.h c.in_ok-h.was
 
--- the roads are linked, where a plan is there and as many heads as remainders
-linked : (k : In-Held)
-    → RoadsLinked k.in-Held.r k.read_laid-x.new.edges k.read_laid-x.new.heads k.read_laid-x.new.nexts
-linked k e =
-    let heads : length k.args.heads.now ≡ 1024 = sym k.read_laid-x.auto.heads ∙ e in
-    let nexts : length k.args.nexts.now ≡ 1024 = k.requires.1 heads in
-    (k.read_laid-x.auto.nexts ∙ nexts, index_held _ _ _ _ _ _ _ _ _ _ k.in-Held.is heads nexts k.read_laid-x.ensures.index)
+pub returns-in_err-h : goal.returns-in_err-h
+returns-in_err-h c =
+    let is : ◌≡◌ {A = Result Bounding HoldError} c.from_residual.result (Err c.in_err-h.field-0.0) = search rules in
+    let (x, y) = unread c.args.plan.bytes.now c.args.plan.long c.read_laid.result c.read_laid.ensures.answer c.in_err-h.field-0.0 c.in_err-h.was c.args.out.now in
+    record { answer = is ∙ x; left = y }
+
+pub laid-numbers-requires : goal.laid-numbers-requires
+laid-numbers-requires c =
+    let (roads, carts) = few_laid _ _ _ (lays (goal.at.laid-numbers-requires c).In_ok-h) in
+    let r = c.read_laid.ensures in record {
+      there = (roads, omega (arith, roads, r.same.as_long.0), omega (arith, carts, r.same.as_long.1));
+      linked = λ e.
+          let heads : length c.args.index.now.heads.now ≡ 1024 = sym r.index.same.heads_long ∙ e in
+          let nexts : length c.args.index.now.nexts.now ≡ 1024 = c.requires heads in
+          (r.index.same.nexts_long ∙ nexts, index_held _ c.in_ok-h.h _ _ _ c.in_ok-h.was (index_fits _ heads nexts) r.index);
+    }
 
 pub write_both-requires : goal.write_both-requires
 write_both-requires c =
-    let e = read (goal.at.write_both-requires c).After-read_laid-x in record {
-      lays = laid_there c.args.plan.now c.requires.0 c.read_laid-x.result e.0 _ _ _ e.1.0 e.1.1.0 e.1.1.1 _ _ _ _ c.in-Held.is;
-      roads_linked = linked (goal.at.write_both-requires c).In-Held;
-    }
+    lays_of c.args.plan.bytes.now c.laid-numbers.result _ c.in_ok-h.h c.laid-numbers.ensures.arrays c.laid-numbers.ensures.size
+    (lays (goal.at.write_both-requires c).In_ok-h)
 
-pub returns-in-TooShort : goal.returns-in-TooShort
-returns-in-TooShort c =
-    absurd (never_short c.args.plan.now c.requires.0 c.read_laid-x.result (read (goal.at.returns-in-TooShort c).After-read_laid-x).0 c.in-TooShort.is)
-
-pub returns-in-NoPlan : goal.returns-in-NoPlan
-returns-in-NoPlan c =
-    let (the-answer, (the-left, the-left_ranges)) = none_held _ _ _ _ _ (unlaid_none c.args.plan.now (not_laid c.args.plan.now c.requires.0 c.read_laid-x.result (read (goal.at.returns-in-NoPlan c).After-read_laid-x).0 c.in-NoPlan.is)) in
-    record { answer = the-answer; left = the-left; left_ranges = the-left_ranges }
+pub returns : goal.returns
+unfolding bounding
+returns c = record {
+  answer = c.ok_or.ensures.value ∙ ap (λ (o : Option Bounding). ok_or o HoldError.NoPlan) c.write_both.ensures.answer;
+  left = c.write_both.ensures.left;
+}

@@ -1,44 +1,60 @@
 -- `bounds::write_rest` meets its contract: the plan's own bounds are counted, and behind them those that its log adds. Assumes nothing.
-use native.Mathlib.Omega.{arith}
-use mathlib.Core.Option.{Option}
-use Rattle.floor.specs.Plan.{Plan}
-use Rattle.tables.specs.Arrays.{paths_in}
-use Rattle.limits.specs.Limits.{of_paths}
+use Rattle.std.proofs.Common.{arith, ◌∙◌, ◌≤◌, ◌≡◌, ap, ap₂, sym, subst, List, ℕ, length}
+use Rattle.std.specs.Prelude.{Option, None, Some}
+use Rattle.std.specs.Option.{option_map}
+use Rattle.network.specs.BoundArrays.{Puts}
+use Rattle.network.proofs.Putting.{puts_none}
+use Rattle.limits.specs.OfPaths.{plan_of}
 use Rattle.schedule.specs.Book.{Book}
 use Rattle.slice.specs.HeldPlan.{log_of}
-use Rattle.bounds.proofs.Counted.{over_counted, as_added, none_counted, some_counted}
+use Rattle.book.specs.Log.{added_of, added_answer, log_book, book_of}
+use Rattle.bounds.specs.Counted.{counted, rest_of}
+use Rattle.bounds.proofs.Counted.{added_many, over_counted, over_rest, few_counted, few_rest}
 use Rattle.bounds.proofs.write_rest.Goals as goal
-use Rattle.bounds.proofs.write_rest.Goals.{Start}
+use Rattle.bounds.proofs.write_rest.Goals.{After-log-log, After-write_added}
 
--- the paths in the array
-abbrev by_paths : Start → Plan
-by_paths z = of_paths (paths_in z.args.carts z.args.steps z.args.cells.now)
+-- the book of the log
+book_is : (c : After-log-log) → book_of c.args.paths c.log-log.result ≡ log_of c.args.plan.now c.args.reports c.args.paths
+unfolding log_of
+book_is c =
+    let p = c.args.paths in
+    ap₂ (λ (x y : List ℕ). log_book p.carts p.steps p.cells.now x y) c.log-log.ensures.carts c.log-log.ensures.times
 
--- the book of the log in the slice
-abbrev its_log : Start → Option Book
-its_log z = log_of z.args.plan.now z.args.reports z.args.cells.now z.args.carts z.args.steps
+-- what is put behind the plan's own
+put : (c : After-write_added)
+    → Puts c.args.out.now c.write_added.new.out c.args.own.bounds (rest_of c.args.own (added_of (plan_of c.args.paths) (log_of c.args.plan.now c.args.reports c.args.paths)))
+put c =
+    subst (Puts c.args.out.now c.write_added.new.out c.args.own.bounds)
+    (ap (added_of (plan_of c.args.paths)) (book_is (goal.at.After-write_added c).After-log-log) ∙ sym (few_rest c.args.own _ c.if-own-gt8192.false)) c.write_added.ensures.left
 
 pub returns-then-own-gt8192 : goal.returns-then-own-gt8192
-returns-then-own-gt8192 c =
-    let (the-answer, (the-left, the-left_ranges)) = over_counted (by_paths (goal.at.returns-then-own-gt8192 c).Start) (its_log (goal.at.returns-then-own-gt8192 c).Start) c.args.events c.args.own c.args.ends.now c.args.ranges.now c.if-own-gt8192.true in
-    record { answer = the-answer; left = the-left; left_ranges = the-left_ranges }
+returns-then-own-gt8192 c = record {
+  answer = over_counted c.args.own _ c.if-own-gt8192.true;
+  left = puts_none _ _ _ (over_rest c.args.own _ c.if-own-gt8192.true);
+}
+
+pub returns-in_err-more : goal.returns-in_err-more
+unfolding counted
+returns-in_err-more c =
+    let told : None ≡ added_answer (plan_of c.args.paths) (log_of c.args.plan.now c.args.reports c.args.paths) =
+    c.in_err-more.ensures.answer ∙ ap (added_answer (plan_of c.args.paths)) (book_is (goal.at.returns-in_err-more c).After-log-log) in
+    record {
+      answer = c.from_residual.ensures ∙ ap (option_map (counted c.args.own)) told ∙ sym (few_counted c.args.own _ c.if-own-gt8192.false);
+      left = put (goal.at.returns-in_err-more c).After-write_added;
+    }
 
 pub overflow_add-result : goal.overflow_add-result
 overflow_add-result c =
-    omega (
-      arith,
-      c.requires c.if-own-gt8192.false,
-      as_added (by_paths (goal.at.overflow_add-result c).Start) (its_log (goal.at.overflow_add-result c).Start) c.args.events c.args.own c.args.ends.now c.args.ranges.now c.write_log-x.result c.write_log-x.ensures.answer _ c.in-Count.is,
-    )
+    let few : c.args.own.bounds ≤ 8192 = c.if-own-gt8192.false in
+    let b = ap (λ (o : Option Book). length (added_of (plan_of c.args.paths) o)) (book_is (goal.at.overflow_add-result c).After-log-log) in
+    omega (arith, c.requires few, added_many _ _ _ c.in_ok-more.ensures.answer, b)
 
-pub returns-in-NoBook : goal.returns-in-NoBook
-returns-in-NoBook c =
-    let (the-answer, (the-left, the-left_ranges)) = none_counted (by_paths (goal.at.returns-in-NoBook c).Start) (its_log (goal.at.returns-in-NoBook c).Start) c.args.events c.args.own c.args.ends.now c.args.ranges.now c.write_log-x.result c.write_log-x.ensures.answer c.if-own-gt8192.false
-    _ _ c.write_log-x.ensures.left c.write_log-x.ensures.left_ranges c.in-NoBook.is in
-    record { answer = the-answer; left = the-left; left_ranges = the-left_ranges }
-
-pub returns-in-Count : goal.returns-in-Count
-returns-in-Count c =
-    let (the-answer, (the-left, the-left_ranges)) = some_counted (by_paths (goal.at.returns-in-Count c).Start) (its_log (goal.at.returns-in-Count c).Start) c.args.events c.args.own c.args.ends.now c.args.ranges.now c.write_log-x.result c.write_log-x.ensures.answer c.if-own-gt8192.false
-    _ _ c.write_log-x.ensures.left c.write_log-x.ensures.left_ranges _ c.in-Count.is in
-    record { answer = the-answer; left = the-left; left_ranges = the-left_ranges }
+pub returns : goal.returns
+unfolding counted
+returns c =
+    let told : Some c.in_ok-more.more ≡ added_answer (plan_of c.args.paths) (log_of c.args.plan.now c.args.reports c.args.paths) =
+    c.in_ok-more.ensures.answer ∙ ap (added_answer (plan_of c.args.paths)) (book_is (goal.at.returns c).After-log-log) in
+    record {
+      answer = ap (option_map (counted c.args.own)) told ∙ sym (few_counted c.args.own _ c.if-own-gt8192.false);
+      left = put (goal.at.returns c).After-write_added;
+    }

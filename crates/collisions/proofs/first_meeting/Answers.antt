@@ -1,30 +1,30 @@
 -- `collisions::first_meeting` meets its contract, search by search. Assumes nothing.
-use mathlib.Core.Path.{sym, ◌∙◌}
+use Rattle.std.proofs.Common.{rules, ◌≡◌, ◌∙◌, ap, sym, ◌*◌, ◌≤◌, length, option_map}
 use borrow.Author.Tests.{leb-true}
-use Rattle.collisions.proofs.Found.{alone, meeting_short, meeting_same, meeting_exchange, meeting_none}
+use Rattle.floor.specs.Paths.{first_exchange}
+use Rattle.collisions.specs.declared.Meeting.{Meeting}
+use Rattle.collisions.specs.Meetings.{met, paths_of}
+use Rattle.collisions.proofs.Found.{meeting_short, meeting_fits}
 use Rattle.collisions.proofs.first_meeting.Goals as goal
+use Rattle.collisions.proofs.first_meeting.Goals.{Else-not-are_there}
 
-pub returns-then-not-fits : goal.returns-then-not-fits
-returns-then-not-fits c = meeting_short _ _ _ (sym c.fits.ensures ∙ c.if-not-fits.true)
+pub returns-then-not-are_there : goal.returns-then-not-are_there
+returns-then-not-are_there c = sym (meeting_short c.args.paths (sym c.are_there.ensures ∙ c.if-not-are_there.true))
 
-pub same_cells-same-requires : goal.same_cells-same-requires
-same_cells-same-requires c = leb-true _ _ (sym c.fits.ensures ∙ c.if-not-fits.false)
+-- all cells are there
+room : (c : Else-not-are_there) → c.args.paths.carts * c.args.paths.steps ≤ length c.args.paths.cells.now
+room c = leb-true _ _ (sym c.are_there.ensures ∙ c.if-not-are_there.false)
 
-pub returns-then-same-ne0 : goal.returns-then-same-ne0
-returns-then-same-ne0 c =
-    meeting_same _ _ _ (leb-true _ _ (sym c.fits.ensures ∙ c.if-not-fits.false)) c.same_cells-same.ensures c.if-same-ne0.true
-
-pub exchanges-swap-requires : goal.exchanges-swap-requires
-exchanges-swap-requires c =
-    let room = leb-true _ _ (sym c.fits.ensures ∙ c.if-not-fits.false) in
-    (room, alone _ _ _ room c.same_cells-same.ensures c.if-same-ne0.false)
-
-pub returns-then-swap-ne0 : goal.returns-then-swap-ne0
-returns-then-swap-ne0 c =
-    let room = leb-true _ _ (sym c.fits.ensures ∙ c.if-not-fits.false) in
-    meeting_exchange _ _ _ room c.same_cells-same.ensures c.if-same-ne0.false c.exchanges-swap.ensures c.if-swap-ne0.true
+pub returns-in-Some : goal.returns-in-Some
+unfolding met
+returns-in-Some c =
+    let p = c.args.paths in
+    sym (meeting_fits p (room (goal.at.returns-in-Some c).Else-not-are_there) ∙ ap (λ o. met o (first_exchange (paths_of p))) (sym c.in-Some.ensures))
 
 pub returns : goal.returns
+unfolding met
 returns c =
-    let room = leb-true _ _ (sym c.fits.ensures ∙ c.if-not-fits.false) in
-    meeting_none _ _ _ room c.same_cells-same.ensures c.if-same-ne0.false c.exchanges-swap.ensures c.if-swap-ne0.false
+    let p = c.args.paths in
+    let e : c.map.result ≡ option_map Meeting.Exchange c.exchanges.result = search rules in
+    e ∙ ap (option_map Meeting.Exchange) c.exchanges.ensures ∙ ap (λ o. met o (first_exchange (paths_of p))) c.in_default.ensures
+    ∙ sym (meeting_fits p (room (goal.at.returns c).Else-not-are_there))

@@ -2,13 +2,5 @@
 use Rattle.hegtalim.proofs.TimedNumbers.{timed_small}
 use Rattle.hegtalim.proofs.hegtalim_timetable.Goals as goal
 
-pub timed_number-requires : goal.timed_number-requires
-timed_number-requires c = timed_small _ _ _ _ c.timetable-x.ensures
-
-pub returns : goal.returns
-returns c =
-    record {
-      answer = c.timetable-x.result;
-      outcome = c.timetable-x.ensures;
-      number_is = c.timed_number.ensures;
-    }
+pub number-requires : goal.number-requires
+number-requires c = timed_small _ _ _ _ c.timetable.ensures.timed _ c.from.ensures

@@ -1,34 +1,45 @@
 -- `hegtalim::time_in` meets its contract: no plan is held, there is no room, or times or a chain are found. Assumes nothing.
-use mathlib.Core.Path.{ap}
+use Rattle.std.specs.Prelude.{Some, Err}
+use Rattle.std.proofs.Common.{rules}
+use mathlib.Core.Path.{◌≡◌, ap, sym, subst, ◌∙◌}
+use Rattle.schedule.specs.Lent.{Lent}
+use Rattle.passes.specs.Lending.{lent_of}
+use Rattle.hegtalim.specs.Errors.{not_timed}
+use Rattle.hegtalim.specs.Answers.{Timed}
+use Rattle.hegtalim.specs.Outcomes.{Timetabled}
 use Rattle.hegtalim.specs.Working.{done}
 use Rattle.hegtalim.proofs.Timing.{told}
-use Rattle.hegtalim.proofs.TimedPlans.{needs_there, never_short, none_held, found}
+use Rattle.hegtalim.proofs.TimedPlans.{needs_there, none_held, found}
 use Rattle.hegtalim.proofs.time_in.Goals as goal
 
-pub returns-in-TooShort : goal.returns-in-TooShort
-returns-in-TooShort c =
+pub returns-in_err-n-clause-worked : goal.returns-in_err-n-clause-worked
+returns-in_err-n-clause-worked c =
     let a = c.args in
-    absurd (never_short a.plan.now (record { times = a.times.now; chain_bounds = a.numbers.now; chain_directions = a.directions.now }) (needs_there a.plan.now (record { times = a.times.now; chain_bounds = a.numbers.now; chain_directions = a.directions.now }) c.requires) c.write_held-x.result c.write_held-x.ensures.answer c.in-TooShort.is)
+    let l : Lent = lent_of a.lent.now in
+    let e : c.from_residual.result ≡ Err (not_timed c.in_err-n.field-0.0) = search rules in
+    done _ _ (subst (λ (x : Timed). Timetabled a.plan.now l x l) (sym e)
+    (none_held a.plan.now l (needs_there a.plan.now l c.requires.0 c.requires.1) c.write_held.result c.write_held.ensures.answer _ c.in_err-n.was))
 
-pub returns-in-NoPlan : goal.returns-in-NoPlan
-returns-in-NoPlan c =
+-- what is found of the bounds that were written
+pub returns-in-None-clause-worked : goal.returns-in-None-clause-worked
+returns-in-None-clause-worked c =
     let a = c.args in
-    done _ _ (none_held a.plan.now (record { times = a.times.now; chain_bounds = a.numbers.now; chain_directions = a.directions.now }) (needs_there a.plan.now (record { times = a.times.now; chain_bounds = a.numbers.now; chain_directions = a.directions.now }) c.requires) c.write_held-x.result c.write_held-x.ensures.answer c.in-NoPlan.is)
+    let l : Lent = lent_of a.lent.now in
+    found a.plan.now l (needs_there a.plan.now l c.requires.0 c.requires.1) c.write_held.result c.write_held.ensures.answer _ _ c.write_held.ensures.left _ c.in_ok-n.was
+    _ _ (search rules) (search rules) c.solve.result _ c.solve.ensures.solving _ (ap told c.in-None.is)
 
-pub returns-in-Unfit : goal.returns-in-Unfit
-returns-in-Unfit c =
+pub returns-in-Some-Times-clause-worked : goal.returns-in-Some-Times-clause-worked
+returns-in-Some-Times-clause-worked c =
     let a = c.args in
-    found a.plan.now (record { times = a.times.now; chain_bounds = a.numbers.now; chain_directions = a.directions.now }) (needs_there a.plan.now (record { times = a.times.now; chain_bounds = a.numbers.now; chain_directions = a.directions.now }) c.requires) c.write_held-x.result c.write_held-x.ensures.answer a.ends.now a.ranges.now _ _ c.write_held-x.ensures.left c.write_held-x.ensures.left_ranges _ _ _ c.in-Bounds.is
-    c.solve-y.result _ c.solve-y.ensures _ (ap told c.in-Unfit.is)
+    let l : Lent = lent_of a.lent.now in
+    let at = c.in-Some-Times in
+    found a.plan.now l (needs_there a.plan.now l c.requires.0 c.requires.1) c.write_held.result c.write_held.ensures.answer _ _ c.write_held.ensures.left _ c.in_ok-n.was
+    _ _ (search rules) (search rules) c.solve.result _ c.solve.ensures.solving _ (ap told (at.is ∙ ap Some at.field-0-is))
 
-pub returns-in-Times : goal.returns-in-Times
-returns-in-Times c =
+pub returns-in-Some-Cycle-clause-worked : goal.returns-in-Some-Cycle-clause-worked
+returns-in-Some-Cycle-clause-worked c =
     let a = c.args in
-    found a.plan.now (record { times = a.times.now; chain_bounds = a.numbers.now; chain_directions = a.directions.now }) (needs_there a.plan.now (record { times = a.times.now; chain_bounds = a.numbers.now; chain_directions = a.directions.now }) c.requires) c.write_held-x.result c.write_held-x.ensures.answer a.ends.now a.ranges.now _ _ c.write_held-x.ensures.left c.write_held-x.ensures.left_ranges _ _ _ c.in-Bounds.is
-    c.solve-y.result _ c.solve-y.ensures _ (ap told c.in-Times.is)
-
-pub returns-in-Cycle : goal.returns-in-Cycle
-returns-in-Cycle c =
-    let a = c.args in
-    found a.plan.now (record { times = a.times.now; chain_bounds = a.numbers.now; chain_directions = a.directions.now }) (needs_there a.plan.now (record { times = a.times.now; chain_bounds = a.numbers.now; chain_directions = a.directions.now }) c.requires) c.write_held-x.result c.write_held-x.ensures.answer a.ends.now a.ranges.now _ _ c.write_held-x.ensures.left c.write_held-x.ensures.left_ranges _ _ _ c.in-Bounds.is
-    c.solve-y.result _ c.solve-y.ensures _ (ap told c.in-Cycle.is)
+    let l : Lent = lent_of a.lent.now in
+    let at = c.in-Some-Cycle in
+    found a.plan.now l (needs_there a.plan.now l c.requires.0 c.requires.1) c.write_held.result c.write_held.ensures.answer _ _ c.write_held.ensures.left _ c.in_ok-n.was
+    _ _ (search rules) (search rules) c.solve.result _ c.solve.ensures.solving _ (ap told (at.is ∙ ap Some at.field-0-is))

@@ -1,32 +1,22 @@
--- `limits::first_events` meets its contract: the limit is not kept, there is no room, or the numbers are written. Assumes nothing.
-use Rattle.limits.proofs.Firsts.{kept_says, firsts_over, firsts_room, firsts_fit}
-use mathlib.Core.Bool.{not}
-use mathlib.Core.Path.{ap}
+-- `limits::first_events` meets its contract: there is no room, the limit is not kept, or the numbers are written. Assumes nothing.
+use mathlib.Core.Path.{ap, ◌∙◌}
+use Rattle.words.specs.Words.{written}
+use Rattle.collisions.specs.declared.Paths.{Paths}
+use Rattle.limits.specs.Orders.{first_events}
+use Rattle.limits.specs.OfPaths.{plan_of}
+use Rattle.limits.proofs.Firsts.{firsts_over, firsts_room, firsts_fit}
 use Rattle.limits.proofs.first_events.Goals as goal
 
-pub returns-then-not-keeps_events : goal.returns-then-not-keeps_events
-returns-then-not-keeps_events c =
-    let a = c.args in
-    let (the-answer, the-left) = firsts_over a.carts a.steps a.cells.now a.firsts.now c.keeps_events.result c.keeps_events.ensures (ap not c.if-not-keeps_events.true) in
-    record { answer = the-answer; left = the-left }
+pub returns-then-firsts-paths : goal.returns-then-firsts-paths
+returns-then-firsts-paths c =
+    let p = c.args.paths in firsts_room p.carts p.steps p.cells.now c.args.firsts.now c.if-firsts-paths.true
 
-pub returns-then-firsts-carts : goal.returns-then-firsts-carts
-returns-then-firsts-carts c =
-    let a = c.args in
-    let (the-answer, the-left) = firsts_room a.carts a.steps a.cells.now a.firsts.now c.keeps_events.result c.keeps_events.ensures (ap not c.if-not-keeps_events.false) c.if-firsts-carts.true in
-    record { answer = the-answer; left = the-left }
+pub returns-in-Some : goal.returns-in-Some
+returns-in-Some c =
+    let p = c.args.paths in
+    let (same, keeps) = c.in-Some.ensures in
+    firsts_fit p.carts p.steps p.cells.now c.args.firsts.now keeps c.if-firsts-paths.false c.put_firsts.new.firsts
+    (c.put_firsts.ensures ∙ ap (λ (q : Paths). written (first_events (plan_of q)) c.args.firsts.now) same)
 
-pub put_firsts-requires : goal.put_firsts-requires
-put_firsts-requires c =
-    let a = c.args in
-    let (few, events) = kept_says a.carts a.steps a.cells.now c.keeps_events.result c.keeps_events.ensures (ap not c.if-not-keeps_events.false) in record {
-      carts_bound = few;
-      cells_bound = events;
-      carts_in_bounds = c.if-firsts-carts.false;
-    }
-
-pub returns : goal.returns
-returns c =
-    let a = c.args in
-    let (the-answer, the-left) = firsts_fit a.carts a.steps a.cells.now a.firsts.now c.keeps_events.result c.keeps_events.ensures (ap not c.if-not-keeps_events.false) c.if-firsts-carts.false c.put_firsts.new.firsts c.put_firsts.ensures in
-    record { answer = the-answer; left = the-left }
+pub returns-in-None : goal.returns-in-None
+returns-in-None c = let p = c.args.paths in firsts_over p.carts p.steps p.cells.now c.args.firsts.now c.in-None.ensures

@@ -1,72 +1,26 @@
--- `limits::within_limits` meets its contract: each test is one of the definition's, by the counts of moves and order bounds. Assumes nothing.
-use Prim.Native.Nat.{◌*◌, ◌≤◌}
-use native.Mathlib.Omega.{arith}
-use mathlib.Core.Path.{◌∙◌}
-use lib.ListN.{length}
-use Rattle.limits.proofs.LimitSteps.{there_says, not_there, many_events, no_steps, orders_asked}
-use mathlib.Core.Bool.{not}
-use mathlib.Core.Path.{ap}
+-- `limits::within_limits` meets its contract: there is no step, the limit of events is not kept, or the order bounds are few. Assumes nothing.
+use Rattle.std.specs.Prelude.{◌≡◌, ◌*◌, ◌-◌, leb, Bool, false, true, Option, None, Some, MatchOption}
+use mathlib.Core.Path.{ap, sym, ◌∙◌}
+use Rattle.std.proofs.Common.{rules}
+use Rattle.collisions.specs.declared.Paths.{Paths}
+use Rattle.limits.specs.declared.grid.Kept.{Kept}
+use Rattle.limits.specs.OfPaths.{keep_limits, keep_events, orders_of}
+use Rattle.limits.proofs.LimitSteps.{no_steps, orders_asked}
+use Rattle.limits.proofs.Firsts.{limits_off}
 use Rattle.limits.proofs.within_limits.Goals as goal
-use Rattle.limits.proofs.within_limits.Goals.{Else-not-all_there}
 
-pub returns-then-not-all_there : goal.returns-then-not-all_there
-returns-then-not-all_there c =
-    let a = c.args in
-    not_there a.carts a.steps a.cells.now c.all_there.result c.all_there.ensures (ap not c.if-not-all_there.true)
+pub returns-then-paths-eq0 : goal.returns-then-paths-eq0
+returns-then-paths-eq0 c = let p = c.args.paths in no_steps p.carts p.steps p.cells.now c.if-paths-eq0.true
 
--- few enough carts and steps, and all cells there
-there : (c : Else-not-all_there)
-    → (c.args.carts ≤ 64) × (c.args.steps ≤ 1024) × (c.args.carts * c.args.steps ≤ length c.args.cells.now)
-there c = let a = c.args in there_says a.carts a.steps a.cells.now c.all_there.result c.all_there.ensures (ap not c.if-not-all_there.false)
-
-pub returns-then-steps-eq0 : goal.returns-then-steps-eq0
-returns-then-steps-eq0 c =
-    let a = c.args in no_steps a.carts a.steps a.cells.now (there (goal.at.returns-then-steps-eq0 c).Else-not-all_there).0 c.if-steps-eq0.true
-
-pub all_moves-moves-requires : goal.all_moves-moves-requires
-all_moves-moves-requires c =
-    let (h, k, l) = there (goal.at.all_moves-moves-requires c).Else-not-all_there in record {
-      carts_bound = h;
-      le_steps = omega arith;
-      steps_bound = k;
-      steps_in_bounds = l;
-    }
-
-pub overflow_add-carts : goal.overflow_add-carts
-overflow_add-carts c = omega (arith, (there (goal.at.overflow_add-carts c).Else-not-all_there).0)
-
-pub overflow_add-carts-2 : goal.overflow_add-carts-2
-overflow_add-carts-2 c = omega (arith, (there (goal.at.overflow_add-carts-2 c).Else-not-all_there).0)
-
-pub returns-then-carts-moves-gt4096 : goal.returns-then-carts-moves-gt4096
-returns-then-carts-moves-gt4096 c =
-    let a = c.args in
-    let some : 1 ≤ a.steps = omega arith in
-    let (h, k, l) = there (goal.at.returns-then-carts-moves-gt4096 c).Else-not-all_there in
-    many_events a.carts a.steps a.cells.now h k l some c.all_moves-moves.result c.all_moves-moves.ensures.value c.if-carts-moves-gt4096.true
-
-pub overflow_mul-carts : goal.overflow_mul-carts
-overflow_mul-carts c = omega (arith, (there (goal.at.overflow_mul-carts c).Else-not-all_there).0)
-
-pub overflow_sub-carts : goal.overflow_sub-carts
-overflow_sub-carts c = omega (arith, (there (goal.at.overflow_sub-carts c).Else-not-all_there).0)
-
-pub overflow_sub-carts-2 : goal.overflow_sub-carts-2
-overflow_sub-carts-2 c = omega (arith, (there (goal.at.overflow_sub-carts-2 c).Else-not-all_there).0)
-
-pub few_orders-requires : goal.few_orders-requires
-few_orders-requires c =
-    let a = c.args in
-    let some : 1 ≤ a.steps = omega arith in
-    let (h, k, l) = there (goal.at.few_orders-requires c).Else-not-all_there in record {
-      carts_bound = (h, some, k, l);
-      moved_value = (c.all_moves-moves.ensures.value, omega (arith, h), omega arith);
-    }
+-- where the limit of events is not kept, and where it is
+judged : (p : Paths) → (p.steps ≡ 0 → ⊥) → (o : Option Kept) (r : Bool) → MatchOption o (keep_events p ≡ false) (λ k. (k.grid.paths ≡ p) × (keep_events p ≡ true))
+    → MatchOption o (r ≡ false) (λ k. r ≡ leb (orders_of k.grid.paths) (8192 - 2 * p.carts - 3 * k.moves)) → r ≡ keep_limits p
+judged p s None r off e = e ∙ limits_off p.carts p.steps p.cells.now s off
+judged p s (Some k) r (same, keeps) e =
+    let g = k.grid in
+    e ∙ ap (λ (q : Paths). leb (orders_of g.paths) (8192 - 2 * q.carts - 3 * k.moves)) (sym same)
+    ∙ orders_asked g.paths.carts g.paths.steps g.paths.cells.now g.few.0 g.few.2 g.few.3 g.few.1 k.moves k.counted k.within
+    ∙ ap keep_limits same
 
 pub returns : goal.returns
-returns c =
-    let a = c.args in
-    let some : 1 ≤ a.steps = omega arith in
-    let (h, k, l) = there (goal.at.returns c).Else-not-all_there in
-    c.few_orders.ensures
-    ∙ orders_asked a.carts a.steps a.cells.now h k l some c.all_moves-moves.result c.all_moves-moves.ensures.value c.if-carts-moves-gt4096.false
+returns c = judged c.args.paths c.if-paths-eq0.false c.of.result c.is_some_and.result c.of.ensures (search rules)

@@ -1,19 +1,23 @@
 -- `printing::print` meets its contract, on all input. Assumes nothing.
-use Rattle.floor.specs.Tables.{Tables}
-use Rattle.printing.proofs.Outcomes.{prints_short, prints_text}
+use Rattle.std.proofs.Common.{rules}
+use native.Mathlib.Omega.{arith}
+use mathlib.Core.Path.{ap, ◌∙◌}
+use Rattle.std.specs.Prelude.{ℕ, ◌≤◌, List, length, Some}
+use Rattle.network.proofs.BoundStores.{front_stored}
+use Rattle.tables.specs.Lending.{tables_of}
+use Rattle.printing.specs.Output.{output}
+use Rattle.printing.proofs.Outcomes.{print_short, print_whole}
 use Rattle.printing.proofs.print.Goals as goal
-use Rattle.printing.proofs.print.Goals.{Start}
-
--- the tables as they were lent
-abbrev tables : Start → Tables
-tables b = let a = b.args in record { roads = a.roads.now; carts = a.carts.now; paths = a.paths.now }
 
 pub returns-then-out-lt348245 : goal.returns-then-out-lt348245
-returns-then-out-lt348245 c =
-    let (the-answer, the-left) = prints_short (tables (goal.at.returns-then-out-lt348245 c).Start) c.args.out.now c.if-out-lt348245.true in
-    record { answer = the-answer; left = the-left }
+returns-then-out-lt348245 c = simp (print_short (tables_of c.args.tables) c.args.out.now c.if-out-lt348245.true) (search rules)
 
 pub returns : goal.returns
 returns c =
-    let (the-answer, the-left) = prints_text (tables (goal.at.returns c).Start) c.args.out.now c.if-out-lt348245.false _ _ c.put_output.ensures in
-    record { answer = the-answer; left = the-left }
+    let text : List ℕ = output (tables_of c.args.tables) in
+    let e = c.put_output.ensures in
+    let fits : length text ≤ length c.args.out.now = omega (arith, e.behind, e.long, c.put_output.new.out.within) in
+    simp (print_whole (tables_of c.args.tables) c.args.out.now c.if-out-lt348245.false) (record {
+      answer = ap Some (omega (arith, e.behind));
+      left = search rules ∙ e.stored ∙ front_stored text c.args.out.now fits;
+    })

@@ -1,22 +1,23 @@
 -- `printing::put_output` meets its contract: the tables are refused, or a plan is held. Assumes nothing.
-use Rattle.floor.specs.Tables.{Tables}
-use Rattle.printing.proofs.Puts.{put_as}
-use Rattle.printing.proofs.Outcomes.{never_short, refused_output, held_output}
+use Rattle.std.specs.Prelude.{Err}
+use Rattle.std.proofs.Common.{rules}
+use mathlib.Core.Path.{◌≡◌}
+use Rattle.tables.specs.declared.ReadError.{ReadError as LoadError}
+use Rattle.printing.specs.Lines.{Puts}
+use Rattle.printing.proofs.Puts.{puts_as}
+use Rattle.printing.proofs.Outcomes.{said, held_output}
 use Rattle.printing.proofs.put_output.Goals as goal
-use Rattle.printing.proofs.put_output.Goals.{Start}
 
--- the tables as they were lent
-abbrev tables : Start → Tables
-tables b = let a = b.args in record { roads = a.roads.now; carts = a.carts.now; paths = a.paths.now }
+pub returns-in-Err-TooShort : goal.returns-in-Err-TooShort
+returns-in-Err-TooShort c =
+    let is : c.load.result ≡ Err LoadError.TooShort = search rules in
+    absurd (said _ c.args.plan.now c.requires.1 c.load.ensures.answer is)
 
-pub returns-in-TooShort : goal.returns-in-TooShort
-returns-in-TooShort c =
-    absurd (never_short (tables (goal.at.returns-in-TooShort c).Start) c.args.plan.now c.requires.1 c.load-x.result c.in-TooShort.is c.load-x.ensures.answer)
+pub returns-in-Err-Refused : goal.returns-in-Err-Refused
+returns-in-Err-Refused c =
+    let is : c.load.result ≡ Err (LoadError.Refused c.in-Err-Refused.why) = search rules in
+    puts_as (said _ c.args.plan.now c.requires.1 c.load.ensures.answer is) c.put_refusal.ensures
 
-pub returns-in-Refused : goal.returns-in-Refused
-returns-in-Refused c =
-    put_as (refused_output (tables (goal.at.returns-in-Refused c).Start) c.args.plan.now c.requires.1 c.load-x.result _ c.in-Refused.is c.load-x.ensures.answer) c.put_refusal.ensures
-
-pub returns-in-Held : goal.returns-in-Held
-returns-in-Held c =
-    held_output (tables (goal.at.returns-in-Held c).Start) c.args.plan.now c.requires.1 c.load-x.result c.in-Held.is c.load-x.ensures.answer _ c.load-x.ensures.left c.args.out.now _ _ c.put_timed.ensures
+pub returns-in-Ok : goal.returns-in-Ok
+returns-in-Ok c =
+    held_output _ c.args.plan.now c.requires.1 c.load.result c.in-Ok.is c.load.ensures.answer _ c.load.ensures.left (λ x. Puts c.args.out.now x c.put_timed.new.out) c.put_timed.ensures

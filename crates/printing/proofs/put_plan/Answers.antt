@@ -1,32 +1,30 @@
 -- `printing::put_plan` meets its contract: the slice holds a plan, whose paths are read into an array. Assumes nothing.
+use Rattle.std.proofs.Common.{rules}
+use native.Mathlib.Omega.{arith}
 use mathlib.Core.Path.{sym, ◌∙◌}
-use mathlib.Core.Option.{none-ne-some}
+use Rattle.laws.proofs.Options.{none-ne-some}
 use Rattle.words.specs.Words.{word_at}
-use Rattle.slice.proofs.HeldPlan.{never_short, no_plan, held_there}
-use Rattle.printing.proofs.Plans.{array_there, events_few, plan_room, plan_put}
+use Rattle.tables.specs.Lending.{arrays_of}
+use Rattle.slice.proofs.HeldPlan.{no_plan, held_there}
+use Rattle.printing.proofs.Puts.{puts_as}
+use Rattle.printing.proofs.Plans.{HeldPaths, held_paths}
 use Rattle.printing.proofs.put_plan.Goals as goal
+use Rattle.printing.proofs.put_plan.Goals.{After-paths}
+
+-- the paths are the plan's
+its_paths : (c : After-paths) → HeldPaths c.args.plan.now c.paths.result
+its_paths c =
+    let p = c.read_plan in
+    let there = held_there c.args.plan.now c.requires.1 p.result p.ensures.answer _ p.ensures.left _ c.in-Ok.is in
+    held_paths c.args.plan.now (arrays_of p.new.arrays) c.in-Ok.held there c.paths.result (c.paths.ensures.cells ∙ search rules) c.paths.ensures.carts c.paths.ensures.steps
 
 pub put_times-requires : goal.put_times-requires
 put_times-requires c =
-    let a = c.args in
-    let h = held_there a.plan.now c.requires.1 c.read_plan-x.result c.read_plan-x.ensures.answer _ _ _ c.read_plan-x.ensures.left c.read_plan-x.ensures.left_speeds c.read_plan-x.ensures.left_cells _ _ _ _ c.in-Held.is in record {
-      carts_bound = array_there _ _ _ _ _ _ _ _ h;
-      cells_bound = events_few _ _ _ _ _ _ _ _ h;
-      cells_in_bounds = plan_room _ _ _ _ _ _ _ _ h (word_at 8 a.times.now) a.out.now c.requires.0;
-    }
+    let h = its_paths (goal.at.put_times-requires c).After-paths in
+    record { carts_bound = h.cells; few = h.few; room = omega (arith, h.short (word_at 8 c.args.times.now), c.requires.0) }
 
-pub returns-in-TooShort : goal.returns-in-TooShort
-returns-in-TooShort c h e =
-    let a = c.args in
-    absurd (never_short a.plan.now c.requires.1 c.read_plan-x.result c.read_plan-x.ensures.answer c.in-TooShort.is)
+pub returns-in_default : goal.returns-in_default
+returns-in_default c h e = absurd (none-ne-some _ (sym (no_plan c.args.plan.now c.requires.1 c.read_plan.result c.read_plan.ensures.answer _ c.in_default.is) ∙ e))
 
-pub returns-in-NoPlan : goal.returns-in-NoPlan
-returns-in-NoPlan c h e =
-    let a = c.args in
-    absurd (none-ne-some _ (sym (no_plan a.plan.now c.requires.1 c.read_plan-x.result c.read_plan-x.ensures.answer c.in-NoPlan.is) ∙ e))
-
-pub returns-in-Held : goal.returns-in-Held
-returns-in-Held c =
-    let a = c.args in
-    let h = held_there a.plan.now c.requires.1 c.read_plan-x.result c.read_plan-x.ensures.answer _ _ _ c.read_plan-x.ensures.left c.read_plan-x.ensures.left_speeds c.read_plan-x.ensures.left_cells _ _ _ _ c.in-Held.is in
-    plan_put _ _ _ _ _ _ _ _ h (word_at 8 a.times.now) a.out.now _ _ c.put_times.ensures
+pub returns-in-Ok : goal.returns-in-Ok
+returns-in-Ok c h e = puts_as ((its_paths (goal.at.returns-in-Ok c).After-paths).text (word_at 8 c.args.times.now) h e) c.put_times.ensures

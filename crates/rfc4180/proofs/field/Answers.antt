@@ -1,31 +1,33 @@
 -- `rfc4180::field` meets its contract.
 -- Assumes nothing.
-use mathlib.Core.Path.{◌≡◌, sym, ap, ◌∙◌}
-use Prim.Native.Nat.{ℕ, ◌-◌}
-use native.Mathlib.Nat.{le_of_lt}
-use native.Mathlib.Omega.{arith}
-use lib.ListN.{length, take, drop}
+use Rattle.std.proofs.Common.{◌≡◌, ◌-◌, ◌∙◌, ap, sym, take, drop, length, arith, ◌==◌}
+use Rattle.std.specs.Option.{unwrap_or}
+use Rattle.std.proofs.lemmas.List.{length-take-le, length-drop}
 use Rattle.rfc4180.specs.Records.{field_at}
-use Rattle.rfc4180.proofs.Reading.{field_fits, field_part, field_over}
+use Rattle.rfc4180.proofs.Reading.{rest_is, field_of, field_length_is, or_length, field_over, field_part, field_fits}
 use Rattle.rfc4180.proofs.field.Goals as goal
+use Rattle.rfc4180.proofs.field.Goals.{After-unwrap_or-k}
 
 pub returns-then-row-at : goal.returns-then-row-at
-returns-then-row-at c = sym (field_over _ _ (le_of_lt c.if-row-at.true))
+returns-then-row-at c = sym (field_over _ _ (omega arith))
 
--- the end lies between the start and the row's end
-pub slice_bounds-result-count : goal.slice_bounds-result-count
-slice_bounds-result-count c = omega arith
-
-pub slice_bounds-result-start : goal.slice_bounds-result-start
-slice_bounds-result-start c = omega arith
+-- as many bytes are taken as the field has
+long : (c : After-unwrap_or-k) → c.unwrap_or-k.result ≡ length (field_at c.args.row.now c.args.at)
+long c =
+    let r = c.args.row.now in
+    let at = c.args.at in
+    let s = take (length r - at) (drop at r) in
+    c.unwrap_or-k.ensures ∙ ap (λ o. unwrap_or o (length s)) c.comma.ensures ∙ or_length (λ b. b == 44) s ∙ sym (field_length_is s)
+    ∙ ap (λ s. length (field_at s 0)) (rest_is r at) ∙ ap (λ f. length f) (sym (field_of r at))
 
 pub slice_bounds-result-end-2 : goal.slice_bounds-result-end-2
 slice_bounds-result-end-2 c =
-    let a = c.args in
-    omega (arith, field_fits a.row.now a.at (omega arith))
+    let r = c.args.row.now in
+    let at = c.args.at in
+    rw (rest_is r at) (sym (length-take-le _ (drop at r) (omega (arith, long (goal.at.slice_bounds-result-end-2 c).After-unwrap_or-k, field_fits r at (omega arith), length-drop at r))))
 
 pub returns : goal.returns
 returns c =
-    let a = c.args in
-    let e : c.field_end-e.result - a.at ≡ length (field_at a.row.now a.at) = omega arith in
-    ap (λ (k : ℕ). take k (drop a.at a.row.now)) e ∙ field_part a.row.now a.at
+    let r = c.args.row.now in
+    let at = c.args.at in
+    ap (λ s. take c.unwrap_or-k.result s) (rest_is r at) ∙ ap (λ k. take k (drop at r)) (long (goal.at.returns c).After-unwrap_or-k) ∙ field_part r at

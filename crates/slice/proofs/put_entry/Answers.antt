@@ -6,18 +6,18 @@ use Rattle.schedule.specs.Book.{◌at◌}
 use Rattle.slice.proofs.Entries.{entry_short, entry_past, entry_put}
 use Rattle.slice.proofs.put_entry.Goals as goal
 
-pub returns-then-plan-lt233472 : goal.returns-then-plan-lt233472
-returns-then-plan-lt233472 c = let a = c.args in entry_short a.plan.now a.n (a.cart at a.time) c.if-plan-lt233472.true
+pub returns-then-plan-lt-PLAN_BYTES : goal.returns-then-plan-lt-PLAN_BYTES
+returns-then-plan-lt-PLAN_BYTES c = let a = c.args in entry_short a.plan.now a.n (a.cart at a.time) c.if-plan-lt-PLAN_BYTES.true
 
-pub returns-then-n-ge4096 : goal.returns-then-n-ge4096
-returns-then-n-ge4096 c = let a = c.args in entry_past a.plan.now a.n (a.cart at a.time) c.if-n-ge4096.true
+pub returns-then-n-ge-MOST_REPORTS : goal.returns-then-n-ge-MOST_REPORTS
+returns-then-n-ge-MOST_REPORTS c = let a = c.args in entry_past a.plan.now a.n (a.cart at a.time) c.if-n-ge-MOST_REPORTS.true
 
 pub shape_of-plan : goal.shape_of-plan
 shape_of-plan c =
     let a = c.args in
-    c.put64.auto.s ∙ length-set a.plan.now (196_608 + a.n) a.cart
+    c.put.auto.s ∙ length-set a.plan.now (196_608 + a.n) a.cart
 
 pub returns : goal.returns
 returns c =
     let a = c.args in
-    entry_put a.plan.now _ a.n (a.cart at a.time) c.if-plan-lt233472.false c.if-n-ge4096.false c.put64.ensures
+    entry_put a.plan.now _ a.n (a.cart at a.time) c.if-plan-lt-PLAN_BYTES.false c.if-n-ge-MOST_REPORTS.false c.put.ensures

@@ -1,21 +1,20 @@
 -- `slice::read_found` meets its contract: the slice is laid out otherwise and gives no plan, or its parts are read. Assumes nothing.
-use mathlib.Core.Path.{sym, ◌∙◌}
-use Rattle.slice.proofs.Holds.{broken_laid, parts_found}
-use Rattle.slice.proofs.Indexing.{index_broken}
+use Rattle.std.proofs.Common.{rules, ◌≡◌, ◌∙◌, Some, None, Err}
+use Rattle.tables.proofs.TablesRead.{same_self}
+use Rattle.slice.specs.declared.HoldError.{HoldError}
+use Rattle.slice.specs.Holding.{layout, Answer}
+use Rattle.slice.proofs.Holds.{broken_laid}
+use Rattle.slice.proofs.Indexing.{index_unread}
 use Rattle.slice.proofs.read_found.Goals as goal
 
 pub read_parts-requires : goal.read_parts-requires
 read_parts-requires c =
-    let (alone, (r, (p, (q, n)))) = parts_found c.args.plan.now _ _ _ _ (sym c.in-Parts.is ∙ c.find_parts-x.ensures) in record {
-      in_bounds = (c.requires.0, alone);
-      r_value = (r, p, q, n);
-      in_bounds_2 = (c.requires.1, c.requires.2, c.requires.3);
-    }
+    let found : Some c.in_ok-layout.layout ≡ layout c.args.plan.bytes.now = search rules in
+    record { layout_is = found; room = c.requires.room }
 
-pub returns-in-Broken : goal.returns-in-Broken
-returns-in-Broken c =
-    let (x, y) = broken_laid c.args.plan.now _ _ (sym c.in-Broken.is ∙ c.find_parts-x.ensures) in record {
-      answer = x;
-      left = y;
-      index = index_broken _ _ _;
-    }
+pub returns-in_err-layout : goal.returns-in_err-layout
+returns-in_err-layout c =
+    let none : None ≡ layout c.args.plan.bytes.now = search rules in
+    let is : ◌≡◌ {A = Answer} c.from_residual.result (Err HoldError.NoPlan) = search rules in
+    let (x, y) = broken_laid c.args.plan.bytes.now _ _ none in
+    record { answer = is ∙ x; left = y; same = same_self _; index = rw is (index_unread _ _ _) }

@@ -1,37 +1,19 @@
 -- `slice::read_laid` meets its contract, on all input. Assumes nothing.
-use mathlib.Core.Path.{◌≡◌, sym, ◌∙◌}
-use mathlib.Core.Logic.{inl, inr}
-use lib.ListN.{length}
-use Rattle.tables.proofs.TablesRead.{beside_index}
+use Rattle.std.proofs.Common.{◌∙◌, sym}
+use Rattle.slice.proofs.Holds.{an_error, an_answer}
 use Rattle.slice.proofs.Indexing.{index_kept, index_handed, index_cleared}
 use Rattle.slice.proofs.read_laid.Goals as goal
-use Rattle.slice.proofs.read_laid.Goals.{Else-nexts-ne1024}
+use Rattle.slice.proofs.read_laid.Goals.{else-is_err-via-then-is_err+else-has_room, else-is_err-via-else-is_err}
 
--- the index has room
-heads_room : (o : Else-nexts-ne1024) → length o.args.heads.now ≡ 1024
-heads_room o = sym o.read_room-x.auto.heads ∙ o.if-heads-ne1024.false
+-- no plan, and room for an index
+pub returns-then-has_room-clause-index : goal.returns-then-has_room-clause-index
+returns-then-has_room-clause-index c =
+    let (why, q) = an_error c.read_room-x.result _ c.is_err.ensures.value c.if-is_err.true in
+    index_cleared _ why q _ _ _ _ c.read_room-x.ensures.index (sym c.has_room.ensures ∙ c.if-has_room.true) c.clear.ensures
 
-nexts_room : (o : Else-nexts-ne1024) → length o.args.nexts.now ≡ 1024
-nexts_room o = sym o.read_room-x.auto.nexts ∙ o.if-nexts-ne1024.false
-
-pub returns-then-heads-ne1024 : goal.returns-then-heads-ne1024
-returns-then-heads-ne1024 c =
-    let (the-answer, (the-left, (the-left_speeds, (the-left_cells, the-index)))) = beside_index (c.read_room-x.ensures.answer, (c.read_room-x.ensures.left, (c.read_room-x.ensures.left_speeds, (c.read_room-x.ensures.left_cells, c.read_room-x.ensures.index)))) (index_kept _ _ _ _ _ _ (inl c.if-heads-ne1024.true) c.read_room-x.auto.heads c.read_room-x.auto.nexts c.read_room-x.ensures.index) in
-    record { answer = the-answer; left = the-left; left_speeds = the-left_speeds; left_cells = the-left_cells; index = the-index }
-
-pub returns-then-nexts-ne1024 : goal.returns-then-nexts-ne1024
-returns-then-nexts-ne1024 c =
-    let (the-answer, (the-left, (the-left_speeds, (the-left_cells, the-index)))) = beside_index (c.read_room-x.ensures.answer, (c.read_room-x.ensures.left, (c.read_room-x.ensures.left_speeds, (c.read_room-x.ensures.left_cells, c.read_room-x.ensures.index)))) (index_kept _ _ _ _ _ _ (inr c.if-nexts-ne1024.true) c.read_room-x.auto.heads c.read_room-x.auto.nexts c.read_room-x.ensures.index) in
-    record { answer = the-answer; left = the-left; left_speeds = the-left_speeds; left_cells = the-left_cells; index = the-index }
-
-pub returns-in-Held : goal.returns-in-Held
-returns-in-Held c =
-    let (the-answer, (the-left, (the-left_speeds, (the-left_cells, the-index)))) = beside_index (c.read_room-x.ensures.answer, (c.read_room-x.ensures.left, (c.read_room-x.ensures.left_speeds, (c.read_room-x.ensures.left_cells, c.read_room-x.ensures.index)))) (index_handed _ _ _ _ _ _ _ _ _ _ c.in-Held.is (heads_room (goal.at.returns-in-Held c).Else-nexts-ne1024) (nexts_room (goal.at.returns-in-Held c).Else-nexts-ne1024) c.read_room-x.ensures.index) in
-    record { answer = the-answer; left = the-left; left_speeds = the-left_speeds; left_cells = the-left_cells; index = the-index }
-
-pub returns : goal.returns
-returns c =
-    let (the-answer, (the-left, (the-left_speeds, (the-left_cells, the-index)))) = beside_index (c.read_room-x.ensures.answer, (c.read_room-x.ensures.left, (c.read_room-x.ensures.left_speeds, (c.read_room-x.ensures.left_cells, c.read_room-x.ensures.index))))
-    (index_cleared _ c.in_default.not-Held
-    _ _ _ _ _ (heads_room (goal.at.returns c).Else-nexts-ne1024) (nexts_room (goal.at.returns c).Else-nexts-ne1024) (length c.read_room-x.new.heads) (length c.read_room-x.new.nexts) c.clear_narrow.ensures c.clear_narrow-2.ensures) in
-    record { answer = the-answer; left = the-left; left_speeds = the-left_speeds; left_cells = the-left_cells; index = the-index }
+-- a plan, or no room
+pub returns-else-is_err-clause-index : goal.returns-else-is_err-clause-index
+returns-else-is_err-clause-index c = elim c.else-is_err.branch [
+  | else-is_err-via-then-is_err+else-has_room w ↦ index_kept _ _ _ _ (sym w.has_room.ensures ∙ w.if-has_room.false) c.read_room-x.ensures.index
+  | else-is_err-via-else-is_err w ↦ let (n, q) = an_answer c.read_room-x.result _ c.is_err.ensures.value w.if-is_err.false in index_handed _ n _ _ _ q c.read_room-x.ensures.index
+]

@@ -1,39 +1,27 @@
 -- `slice::read_plan` meets its contract, on all input: what is laid out is not there, passes the limits, has a log that is refused, or is held. Assumes nothing.
-use Prim.Native.Nat.{ℕ}
-use mathlib.Core.Path.{ap, ◌∙◌}
-use lib.ListN.{replicate}
-use Rattle.slice.proofs.Holds.{plan_short, plan_none, slice_long, reports_few, plan_held, plan_not_held}
-use Rattle.tables.proofs.TablesRead.{without_index}
+use Rattle.std.proofs.Common.{rules, ◌≡◌, ◌∙◌, Err}
+use Rattle.tables.specs.Lending.{arrays_of}
+use Rattle.slice.specs.Holding.{Answer}
+use Rattle.slice.proofs.Holds.{plan_unread, plan_held, plan_not_held}
+use Rattle.tables.proofs.TablesRead.{same_on, zeros_as}
 use Rattle.slice.proofs.read_plan.Goals as goal
-
-pub accepts_log-requires : goal.accepts_log-requires
-accepts_log-requires c =
-    let a = c.args in
-    (slice_long a.plan.now a.edges.now a.speeds.now a.cells.now _ _ _ _ (without_index (c.read_room-x.ensures.answer, (c.read_room-x.ensures.left, (c.read_room-x.ensures.left_speeds, (c.read_room-x.ensures.left_cells, c.read_room-x.ensures.index))))) _ _ _ _ c.in-Held.is, reports_few a.plan.now a.edges.now a.speeds.now a.cells.now _ _ _ _ (without_index (c.read_room-x.ensures.answer, (c.read_room-x.ensures.left, (c.read_room-x.ensures.left_speeds, (c.read_room-x.ensures.left_cells, c.read_room-x.ensures.index))))) _ _ _ _ c.in-Held.is)
 
 pub returns-then-accepts_log : goal.returns-then-accepts_log
 returns-then-accepts_log c =
-    let a = c.args in
-    let (the-answer, (the-left, (the-left_speeds, the-left_cells))) = plan_held a.plan.now a.edges.now a.speeds.now a.cells.now _ _ _ _ (without_index (c.read_room-x.ensures.answer, (c.read_room-x.ensures.left, (c.read_room-x.ensures.left_speeds, (c.read_room-x.ensures.left_cells, c.read_room-x.ensures.index))))) _ _ _ _ c.in-Held.is _ c.accepts_log.ensures c.if-accepts_log.true in
-    record { answer = the-answer; left = the-left; left_speeds = the-left_speeds; left_cells = the-left_cells }
+    let r = c.read_room.ensures in
+    let (x, y) = plan_held c.args.plan.now (arrays_of c.args.arrays.now) _ _ (r.answer, r.left) _ c.in_ok-h.was _ c.accepts_log.ensures c.if-accepts_log.true in
+    record { answer = x; left = y; same = r.same }
 
-pub returns-in-TooShort : goal.returns-in-TooShort
-returns-in-TooShort c =
-    let a = c.args in
-    let (the-answer, (the-left, (the-left_speeds, the-left_cells))) = plan_short a.plan.now a.edges.now a.speeds.now a.cells.now _ _ _ _ (without_index (c.read_room-x.ensures.answer, (c.read_room-x.ensures.left, (c.read_room-x.ensures.left_speeds, (c.read_room-x.ensures.left_cells, c.read_room-x.ensures.index))))) c.in-TooShort.is in
-    record { answer = the-answer; left = the-left; left_speeds = the-left_speeds; left_cells = the-left_cells }
+pub returns-in_err-h : goal.returns-in_err-h
+returns-in_err-h c =
+    let r = c.read_room.ensures in
+    let is : ◌≡◌ {A = Answer} c.from_residual.result (Err c.in_err-h.field-0.0) = search rules in
+    let (x, y) = plan_unread c.args.plan.now (arrays_of c.args.arrays.now) _ _ (r.answer, r.left) _ c.in_err-h.was in
+    record { answer = is ∙ x; left = y; same = r.same }
 
-pub returns-in-NoPlan : goal.returns-in-NoPlan
-returns-in-NoPlan c =
-    let a = c.args in
-    let (the-answer, (the-left, (the-left_speeds, the-left_cells))) = plan_none a.plan.now a.edges.now a.speeds.now a.cells.now _ _ _ _ (without_index (c.read_room-x.ensures.answer, (c.read_room-x.ensures.left, (c.read_room-x.ensures.left_speeds, (c.read_room-x.ensures.left_cells, c.read_room-x.ensures.index))))) c.in-NoPlan.is in
-    record { answer = the-answer; left = the-left; left_speeds = the-left_speeds; left_cells = the-left_cells }
-
-pub returns-else-accepts_log : goal.returns-else-accepts_log
-returns-else-accepts_log c =
-    let a = c.args in
-    let (the-answer, (the-left, (the-left_speeds, the-left_cells))) = plan_not_held a.plan.now a.edges.now a.speeds.now a.cells.now _ _ _ _ (without_index (c.read_room-x.ensures.answer, (c.read_room-x.ensures.left, (c.read_room-x.ensures.left_speeds, (c.read_room-x.ensures.left_cells, c.read_room-x.ensures.index))))) _ _ _ _ c.in-Held.is _ c.accepts_log.ensures c.if-accepts_log.false _ _ _
-    (c.clear_all.ensures.edges ∙ ap (λ (n : ℕ). replicate n 0) c.read_room-x.auto.edges)
-    (c.clear_all.ensures.speeds ∙ ap (λ (n : ℕ). replicate n 0) c.read_room-x.auto.speeds)
-    (c.clear_all.ensures.cells ∙ ap (λ (n : ℕ). replicate n 0) c.read_room-x.auto.cells) in
-    record { answer = the-answer; left = the-left; left_speeds = the-left_speeds; left_cells = the-left_cells }
+pub returns : goal.returns
+returns c =
+    let r = c.read_room.ensures in
+    let (x, y) = plan_not_held c.args.plan.now (arrays_of c.args.arrays.now) _ _ (r.answer, r.left) _ c.in_ok-h.was _ c.accepts_log.ensures c.if-accepts_log.false _
+    (c.clear.ensures.left ∙ zeros_as _ _ r.same.as_long) in
+    record { answer = x; left = y; same = same_on _ _ _ r.same c.clear.ensures.same }

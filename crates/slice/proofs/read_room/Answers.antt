@@ -1,89 +1,48 @@
 -- `slice::read_room` meets its contract, on all input. Assumes nothing.
-use Prim.Native.Nat.{ℕ}
-use mathlib.Core.Path.{◌≡◌, ap, ◌∙◌}
-use mathlib.Core.Bool.{true, ◌&&◌}
-use lib.Dec.{leb}
+use Rattle.std.proofs.Common.{rules, ◌≡◌, ◌∙◌, None, Err, sym, true, ◌&&◌, length}
 use mathlib.Core.Logic.{inl, inr}
-use lib.ListN.{length, replicate}
+use lib.Dec.{leb}
+use Rattle.tables.specs.Lending.{arrays_of}
 use Rattle.tables.specs.Reading.{room}
-use Rattle.slice.proofs.Holds.{slice_over, array_over, all_long, laid_none, laid_there}
-use Rattle.slice.proofs.Indexing.{index_too_short, index_none}
+use Rattle.tables.proofs.TablesRead.{same_self, same_on, zeros_as}
+use Rattle.slice.specs.declared.HoldError.{HoldError}
+use Rattle.slice.specs.Holding.{Answer}
+use Rattle.slice.proofs.Holds.{either_short, all_long, an_error, an_answer, laid_none, laid_there}
+use Rattle.slice.proofs.Indexing.{index_unread, index_none}
 use Rattle.slice.proofs.read_room.Goals as goal
-use Rattle.slice.proofs.read_room.Goals.{Else-cells-lt8192}
+use Rattle.slice.proofs.read_room.Goals.{In_ok-plan, After-read_found-found}
 
-pub returns-then-plan-lt233472 : goal.returns-then-plan-lt233472
-returns-then-plan-lt233472 c =
-    let a = c.args in
-    let (x, (y, (z, w))) = slice_over a.plan.now a.edges.now a.speeds.now a.cells.now c.if-plan-lt233472.true in record {
-      answer = x;
-      left = y;
-      left_speeds = z;
-      left_cells = w;
-      index = index_too_short _ _ _;
-    }
+pub returns-in_err-plan : goal.returns-in_err-plan
+returns-in_err-plan c =
+    let none : c.new.result ≡ None = search rules in
+    let is : ◌≡◌ {A = Answer} c.from_residual.result (Err HoldError.TooShort) = search rules in
+    let (x, y) = either_short c.args.plan.now (arrays_of c.args.arrays.now) (inl (c.new.ensures.short none)) in
+    record { answer = is ∙ x; left = y; same = same_self _; index = rw is (index_unread _ _ _) }
 
-pub returns-then-edges-lt4096 : goal.returns-then-edges-lt4096
-returns-then-edges-lt4096 c =
-    let a = c.args in
-    let (x, (y, (z, w))) = array_over a.plan.now a.edges.now a.speeds.now a.cells.now (inl c.if-edges-lt4096.true) in record {
-      answer = x;
-      left = y;
-      left_speeds = z;
-      left_cells = w;
-      index = index_too_short _ _ _;
-    }
+pub returns-then-not-has_room : goal.returns-then-not-has_room
+returns-then-not-has_room c =
+    let (x, y) = either_short c.args.plan.now (arrays_of c.args.arrays.now) (inr (sym c.has_room.ensures ∙ c.if-not-has_room.true)) in
+    record { answer = x; left = y; same = same_self _; index = index_unread _ _ _ }
 
-pub returns-then-speeds-lt128 : goal.returns-then-speeds-lt128
-returns-then-speeds-lt128 c =
-    let a = c.args in
-    let (x, (y, (z, w))) = array_over a.plan.now a.edges.now a.speeds.now a.cells.now (inr (inl c.if-speeds-lt128.true)) in record {
-      answer = x;
-      left = y;
-      left_speeds = z;
-      left_cells = w;
-      index = index_too_short _ _ _;
-    }
-
-pub returns-then-cells-lt8192 : goal.returns-then-cells-lt8192
-returns-then-cells-lt8192 c =
-    let a = c.args in
-    let (x, (y, (z, w))) = array_over a.plan.now a.edges.now a.speeds.now a.cells.now (inr (inr c.if-cells-lt8192.true)) in record {
-      answer = x;
-      left = y;
-      left_speeds = z;
-      left_cells = w;
-      index = index_too_short _ _ _;
-    }
+-- the slice that is long enough
+same : (c : In_ok-plan) → c.in_ok-plan.plan.bytes.now ≡ c.args.plan.now
+same c = c.new.ensures.there c.in_ok-plan.plan (search rules)
 
 -- there is room
-has : (o : Else-cells-lt8192) → let a = o.args in (leb 233_472 (length a.plan.now) && room (record { roads = a.edges.now; carts = a.speeds.now; cells = a.cells.now })) ≡ true
-has o =
-    let a = o.args in
-    all_long a.plan.now a.edges.now a.speeds.now a.cells.now o.if-plan-lt233472.false o.if-edges-lt4096.false o.if-speeds-lt128.false o.if-cells-lt8192.false
+has : (o : After-read_found-found) → (leb 233_472 (length o.in_ok-plan.plan.bytes.now) && room (arrays_of o.args.arrays.now)) ≡ true
+has o = all_long o.in_ok-plan.plan.bytes.now (arrays_of o.args.arrays.now) o.in_ok-plan.plan.long (sym o.has_room.ensures ∙ o.if-not-has_room.false)
 
-pub returns-in-NoPlan : goal.returns-in-NoPlan
-returns-in-NoPlan c =
-    let a = c.args in
-    let (x, (y, (z, u))) = laid_none a.plan.now a.edges.now a.speeds.now a.cells.now (has (goal.at.returns-in-NoPlan c).Else-cells-lt8192)
-    _ c.read_found-x.ensures.answer c.in-NoPlan.is _ _ _
-    (c.clear_all.ensures.edges ∙ ap (λ (n : ℕ). replicate n 0) c.read_found-x.auto.edges)
-    (c.clear_all.ensures.speeds ∙ ap (λ (n : ℕ). replicate n 0) c.read_found-x.auto.speeds)
-    (c.clear_all.ensures.cells ∙ ap (λ (n : ℕ). replicate n 0) c.read_found-x.auto.cells) in record {
-      answer = x;
-      left = y;
-      left_speeds = z;
-      left_cells = u;
-      index = index_none _ _ _ _ _ _ _ c.in-NoPlan.is c.read_found-x.ensures.index;
-    }
+pub returns-then-is_err : goal.returns-then-is_err
+returns-then-is_err c =
+    let r = c.read_found-found.ensures in
+    let (why, q) = an_error c.read_found-found.result _ c.is_err.ensures.value c.if-is_err.true in
+    let (x, y) = laid_none c.in_ok-plan.plan.bytes.now (arrays_of c.args.arrays.now) (has (goal.at.returns-then-is_err c).After-read_found-found) _ why r.answer q _
+    (c.clear.ensures.left ∙ zeros_as _ _ r.same.as_long) in
+    rw (← same (goal.at.returns-then-is_err c).In_ok-plan) (record { answer = x; left = y; same = same_on _ _ _ r.same c.clear.ensures.same; index = index_none _ why _ _ _ _ q r.index })
 
-pub returns-in_default : goal.returns-in_default
-returns-in_default c =
-    let a = c.args in
-    let (x, (y, (z, u))) = laid_there a.plan.now a.edges.now a.speeds.now a.cells.now (has (goal.at.returns-in_default c).Else-cells-lt8192) _ _ _ _ (c.read_found-x.ensures.answer, c.read_found-x.ensures.left)
-    c.in_default.not-NoPlan in record {
-      answer = x;
-      left = y;
-      left_speeds = z;
-      left_cells = u;
-      index = c.read_found-x.ensures.index;
-    }
+pub returns-else-is_err : goal.returns-else-is_err
+returns-else-is_err c =
+    let r = c.read_found-found.ensures in
+    let (n, q) = an_answer c.read_found-found.result _ c.is_err.ensures.value c.if-is_err.false in
+    let (x, y) = laid_there c.in_ok-plan.plan.bytes.now (arrays_of c.args.arrays.now) (has (goal.at.returns-else-is_err c).After-read_found-found) _ _ (r.answer, r.left) n q in
+    rw (← same (goal.at.returns-else-is_err c).In_ok-plan) (record { answer = x; left = y; same = r.same; index = r.index })

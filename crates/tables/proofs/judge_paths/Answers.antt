@@ -1,23 +1,22 @@
 -- `tables::judge_paths` meets its contract, search by search. Assumes nothing.
-use native.Mathlib.Omega.{arith}
-use mathlib.Core.Path.{sym, ◌∙◌}
-use Rattle.tables.proofs.Found.{judged_off, judged_same, judged_exchange, judged_kept}
+use Rattle.std.proofs.Common.{◌∙◌, ap, Err}
+use Rattle.tables.proofs.Found.{judged_off, judged_met, judged_kept}
 use Rattle.tables.proofs.judge_paths.Goals as goal
 
-pub returns-then-off-ne0 : goal.returns-then-off-ne0
-returns-then-off-ne0 c = judged_off _ _ _ _ c.off_roads-off.ensures c.if-off-ne0.true
+pub returns-in-Some : goal.returns-in-Some
+returns-in-Some c =
+    let e = c.paths-paths.ensures in
+    ap Err c.refuses.ensures ∙ judged_off _ c.paths-paths.result _ _ _ e.cells e.carts e.steps _ c.in-Some.ensures
 
--- two carts in one cell
-pub returns-in-SameCell : goal.returns-in-SameCell
-returns-in-SameCell c =
-    judged_same _ _ _ _ c.off_roads-off.ensures c.if-off-ne0.false (omega arith) _ (sym c.in-SameCell.is ∙ c.first_meeting-x.ensures)
-
--- two that exchange cells
-pub returns-in-Exchange : goal.returns-in-Exchange
-returns-in-Exchange c =
-    judged_exchange _ _ _ _ c.off_roads-off.ensures c.if-off-ne0.false (omega arith) _ (sym c.in-Exchange.is ∙ c.first_meeting-x.ensures)
+-- two carts meet
+pub returns-in-Some-first_meeting : goal.returns-in-Some-first_meeting
+returns-in-Some-first_meeting c =
+    let e = c.paths-paths.ensures in
+    let x = c.in-Some-first_meeting in
+    ap Err c.into.ensures ∙ judged_met _ c.paths-paths.result _ _ _ e.cells e.carts e.steps c.in_default.ensures c.requires.paths.1 _ x.ensures
 
 -- neither
-pub returns-in-Apart : goal.returns-in-Apart
-returns-in-Apart c =
-    judged_kept _ _ _ _ c.off_roads-off.ensures c.if-off-ne0.false (omega arith) (omega arith) (sym c.in-Apart.is ∙ c.first_meeting-x.ensures)
+pub returns-in-None : goal.returns-in-None
+returns-in-None c =
+    let e = c.paths-paths.ensures in
+    judged_kept _ c.paths-paths.result _ _ _ e.cells e.carts e.steps c.in_default.ensures c.requires.paths.1 c.in-None.ensures

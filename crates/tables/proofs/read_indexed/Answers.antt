@@ -1,31 +1,40 @@
 -- `tables::read_indexed` meets its contract, on all input. Assumes nothing.
-use mathlib.Core.Logic.{inl, inr}
-use lib.ListN.{length}
-use Rattle.tables.proofs.TablesRead.{roads_none, roads_told, index_short, index_there, index_copied, beside_index}
+use Rattle.std.proofs.Common.{rules, ◌≡◌, ◌∙◌, sym, subst, refl, List, ℕ}
+use Rattle.tables.specs.Index.{Indexed, Linked}
+use Rattle.tables.specs.Reading.{roads_read}
+use Rattle.tables.proofs.TablesRead.{index_short, index_there, room_length, roads_none, roads_told}
 use Rattle.tables.proofs.read_indexed.Goals as goal
+use Rattle.tables.proofs.read_indexed.Goals.{Then-is_ok}
 
-pub returns-then-heads-ne1024 : goal.returns-then-heads-ne1024
-returns-then-heads-ne1024 c =
-    let (the-answer, (the-edges, (the-speeds, (the-cells, the-index)))) = beside_index (c.read_arrays-x.ensures.answer, (c.read_arrays-x.ensures.edges, (c.read_arrays-x.ensures.speeds, (c.read_arrays-x.ensures.cells, c.read_arrays-x.ensures.index)))) (index_short _ _ c.args.heads.now c.args.nexts.now (inl c.if-heads-ne1024.true)) in
-    record { answer = the-answer; edges = the-edges; speeds = the-speeds; cells = the-cells; index = the-index }
+-- what was made is the index of the roads that were read
+made : (c : Then-is_ok) → Linked (roads_read c.read_arrays-x.result) c.read_arrays-x.new.arrays.edges.now c.read_arrays-x.new.index
+made c = roads_told c.read_arrays-x.result (search rules) _ _ c.read_arrays-x.ensures.index
 
-pub returns-then-nexts-ne1024 : goal.returns-then-nexts-ne1024
-returns-then-nexts-ne1024 c =
-    let (the-answer, (the-edges, (the-speeds, (the-cells, the-index)))) = beside_index (c.read_arrays-x.ensures.answer, (c.read_arrays-x.ensures.edges, (c.read_arrays-x.ensures.speeds, (c.read_arrays-x.ensures.cells, c.read_arrays-x.ensures.index)))) (index_short _ _ c.args.heads.now c.args.nexts.now (inr c.if-nexts-ne1024.true)) in
-    record { answer = the-answer; edges = the-edges; speeds = the-speeds; cells = the-cells; index = the-index }
+pub copy_from_slice-requires : goal.copy_from_slice-requires
+copy_from_slice-requires c =
+    let (h, n) = room_length c.args.index.now (sym c.has_room.ensures ∙ c.if-not-has_room.false) in
+    h ∙ sym (made (goal.at.copy_from_slice-requires c).Then-is_ok).heads_long
 
-pub returns-in-Read : goal.returns-in-Read
-returns-in-Read c =
-    let (the-answer, (the-edges, (the-speeds, (the-cells, the-index)))) = beside_index (c.read_arrays-x.ensures.answer, (c.read_arrays-x.ensures.edges, (c.read_arrays-x.ensures.speeds, (c.read_arrays-x.ensures.cells, c.read_arrays-x.ensures.index))))
-    (index_there _ _ c.args.heads.now c.args.nexts.now _ _ c.if-heads-ne1024.false c.if-nexts-ne1024.false
-    (index_copied _ _ _ _ _ _ c.copy_narrow.ensures c.copy_narrow-in-Read.ensures (roads_told _ _ _ _ _ _ _ c.in-Read.is (c.read_arrays-x.ensures.index _ _ _ c.in-Read.is)))) in
-    record { answer = the-answer; edges = the-edges; speeds = the-speeds; cells = the-cells; index = the-index }
+pub copy_from_slice-requires-then-is_ok : goal.copy_from_slice-requires-then-is_ok
+copy_from_slice-requires-then-is_ok c =
+    let (h, n) = room_length c.args.index.now (sym c.has_room.ensures ∙ c.if-not-has_room.false) in
+    n ∙ sym (made (goal.at.copy_from_slice-requires-then-is_ok c).Then-is_ok).nexts_long
 
-pub returns : goal.returns
-returns c =
-    let a = c.args in
-    let (the-answer, (the-edges, (the-speeds, (the-cells, the-index)))) = beside_index (c.read_arrays-x.ensures.answer, (c.read_arrays-x.ensures.edges, (c.read_arrays-x.ensures.speeds, (c.read_arrays-x.ensures.cells, c.read_arrays-x.ensures.index))))
-    (index_there _ _ a.heads.now a.nexts.now _ _ c.if-heads-ne1024.false c.if-nexts-ne1024.false
-    (roads_none _ c.in_default.not-Read
-    (length a.heads.now) (length a.nexts.now) _ _ _ c.clear_narrow.ensures c.clear_narrow-2.ensures)) in
-    record { answer = the-answer; edges = the-edges; speeds = the-speeds; cells = the-cells; index = the-index }
+pub returns-then-not-has_room-clause-index : goal.returns-then-not-has_room-clause-index
+returns-then-not-has_room-clause-index c = index_short _ _ c.args.index.now (sym c.has_room.ensures ∙ c.if-not-has_room.true)
+
+pub returns-then-is_ok-clause-index : goal.returns-then-is_ok-clause-index
+returns-then-is_ok-clause-index c =
+    let i = c.read_arrays-x.new.index in
+    let r = roads_read c.read_arrays-x.result in
+    let s = c.read_arrays-x.new.arrays.edges.now in
+    let h : c.copy_from_slice.new.self ≡ i.heads.now = search rules in
+    let n : c.copy_from_slice-then-is_ok.new.self ≡ i.nexts.now = search rules in
+    index_there _ _ c.args.index.now _ (record { heads = refl; nexts = refl; heads_long = search rules; nexts_long = search rules }) (sym c.has_room.ensures ∙ c.if-not-has_room.false)
+    (subst (λ (x : List ℕ). Indexed r s c.copy_from_slice.new.self x) (sym n)
+    (subst (λ (x : List ℕ). Indexed r s x i.nexts.now) (sym h) (made (goal.at.returns-then-is_ok-clause-index c).Then-is_ok).indexed))
+
+pub returns-else-is_ok-clause-index : goal.returns-else-is_ok-clause-index
+returns-else-is_ok-clause-index c =
+    index_there _ _ c.args.index.now _ c.clear.ensures.same (sym c.has_room.ensures ∙ c.if-not-has_room.false)
+    (roads_none c.read_arrays-x.result (search rules) _ _ _ c.clear.ensures)

@@ -15,15 +15,15 @@ overflow_mul-at c = let a = c.args in omega (arith, word_begins 8 a.s.now a.i (l
 pub overflow_sub-rest : goal.overflow_sub-rest
 overflow_sub-rest c = let a = c.args in word_begins 8 a.s.now a.i (lit< tt) c.if-s-i.false
 
-pub get-requires : goal.get-requires
-get-requires c = let a = c.args in (omega (arith, word_begins 8 a.s.now a.i (lit< tt) c.if-s-i.false), omega arith)
+pub load-requires : goal.load-requires
+load-requires c = let a = c.args in (omega (arith, word_begins 8 a.s.now a.i (lit< tt) c.if-s-i.false), omega arith)
 
 pub returns-then-rest-lt8 : goal.returns-then-rest-lt8
-returns-then-rest-lt8 c = let a = c.args in word_cut 8 a.s.now a.i _ refl c.if-rest-lt8.true c.get.result c.get.ensures
+returns-then-rest-lt8 c = let a = c.args in word_cut 8 a.s.now a.i _ refl c.if-rest-lt8.true c.load.result c.load.ensures
 
-pub get-requires-2 : goal.get-requires-2
-get-requires-2 c = let a = c.args in (omega (arith, word_begins 8 a.s.now a.i (lit< tt) c.if-s-i.false), omega arith)
+pub load-requires-2 : goal.load-requires-2
+load-requires-2 c = let a = c.args in (omega (arith, word_begins 8 a.s.now a.i (lit< tt) c.if-s-i.false), omega arith)
 
 pub returns : goal.returns
 unfolding word_at
-returns c = c.get-2.ensures
+returns c = c.load-2.ensures

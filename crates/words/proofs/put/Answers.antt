@@ -1,43 +1,32 @@
--- `words::put` meets its contract: the bytes are stored one after the other, the least first. Assumes nothing.
-use Prim.Native.Nat.{◌+◌, ◌%◌}
-use native.Mathlib.Omega.{arith}
-use mathlib.Core.Path.{refl, sym, ◌∙◌}
-use lib.ListN.{length-set}
-use Rattle.words.proofs.Storing.{put_first, put_turn, put_done}
+-- `words::put` meets its contract: a place that is there is stored to. Numbers of no bytes have none. Assumes nothing.
+use Rattle.std.proofs.Common.{arith}
+use Rattle.words.proofs.Storing.{word_stored, word_kept, word_ends, word_of_none}
 use Rattle.words.proofs.put.Goals as goal
+use Rattle.words.proofs.put.Goals.{In-Some}
 
-pub loop-i-init : goal.loop-i-init
-loop-i-init c = let a = c.args in (omega arith, refl, put_first a.s.now a.at a.k a.v)
+pub returns-in_default : goal.returns-in_default
+returns-in_default g c = word_of_none g.row.K c.args.s.now c.args.i c.args.v (λ p. c.in_default.ensures p)
 
-pub overflow_cast-s : goal.overflow_cast-s
-overflow_cast-s c = omega arith
-
-pub overflow_add-s : goal.overflow_add-s
-overflow_add-s c = omega arith
-
-pub bounds-s-at : goal.bounds-s-at
-bounds-s-at c = omega arith
-
-pub overflow_add-i : goal.overflow_add-i
-overflow_add-i c = omega arith
-
-pub loop-i-smaller : goal.loop-i-smaller
-loop-i-smaller c = omega arith
-
-pub loop-i-preserved : goal.loop-i-preserved
-loop-i-preserved c =
-    let l = c.loop-i in
-    let a = c.args in (
-      omega arith,
-      length-set l.s (a.at + l.i) (l.x % 256) ∙ l.invariant.1,
-      put_turn l.s a.at a.k l.i l.x c.loop-i-test.true ∙ l.invariant.2,
-    )
-
-pub shape_of-s : goal.shape_of-s
-shape_of-s c = c.loop-i.invariant.1
-
-pub returns : goal.returns
-returns c =
-    let l = c.loop-i in
+pub overflow_mul-at : goal.overflow_mul-at
+overflow_mul-at g c =
     let a = c.args in
-    sym (put_done l.s a.at a.k l.i l.x c.loop-i-test.false) ∙ l.invariant.2
+    let e = c.in-Some.ensures in
+    omega (arith, word_ends g.row.K a.s.now a.i e.0 (rw e.1 at c.if-i-count.true))
+
+pub store-requires : goal.store-requires
+store-requires g c =
+    let a = c.args in
+    let e = c.in-Some.ensures in
+    word_ends g.row.K a.s.now a.i e.0 (rw e.1 at c.if-i-count.true)
+
+pub returns-then-i-count : goal.returns-then-i-count
+returns-then-i-count g c =
+    let a = c.args in
+    let e = c.in-Some.ensures in
+    word_stored g.row.K a.s.now _ a.i a.v e.0 (rw e.1 at c.if-i-count.true) c.store.ensures
+
+pub returns-else-i-count : goal.returns-else-i-count
+returns-else-i-count g c =
+    let a = c.args in
+    let e = c.in-Some.ensures in
+    word_kept g.row.K a.s.now a.i a.v e.0 (rw e.1 at c.if-i-count.false)

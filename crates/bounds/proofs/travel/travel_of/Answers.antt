@@ -1,120 +1,113 @@
--- `bounds::travel::travel_of` meets its contract. The loop's invariant: the bounds from step `s` on, after cell `c`, stored from here on, make the
--- arrays that are to be. Assumes nothing.
-use Prim.Native.Nat.{ℕ, suc, ◌+◌, ◌*◌, ◌≤◌, ◌<◌}
-use native.Mathlib.Omega.{arith}
-use mathlib.Core.Path.{◌≡◌, refl, ap, sym, ◌∙◌}
-use mathlib.Core.List.{List, [], flat_map}
-use lib.ListN.{length, take, drop, get_or}
-use lib.Seq.{sets}
-use borrow.Author.Rules.{rules}
-use Rattle.floor.specs.Plan.{Road, Cart}
-use Rattle.tables.specs.Arrays.{roads_in}
+-- `bounds::travel::travel_of` meets its contract: the bounds from step `s` on, after cell `c`, are yet to be put. Assumes nothing.
+use Rattle.std.proofs.Common.{arith, ℕ, ◌≡◌, ◌≤◌, ◌+◌, ◌*◌, ◌∙◌, ◌++◌, List, [], refl, ap, sym, length, take, drop, get_or, length-append}
+use Rattle.floor.specs.declared.Road.{Road}
+use Rattle.floor.specs.declared.Cart.{Cart}
 use Rattle.network.specs.Events.{visits_after}
-use Rattle.network.specs.Bounds.{Bound}
-use Rattle.network.specs.BoundArrays.{bound_ends, bound_range}
-use Rattle.limits.specs.Counts.{moves_after, moves}
-use Rattle.limits.proofs.CountSteps.{steps_from, moves_first, moves_wait, moves_move, moves_none}
-use Rattle.bounds.specs.Writing.{cart_of, path_bounds}
-use Rattle.network.proofs.BoundStores.{by_ends, by_range, none_stored}
-use Rattle.bounds.proofs.Moves.{along, path_first, wait_stored, moved_stored, path_none}
+use Rattle.network.specs.Bounds.{Bound, part_lengths, parts, part_bounds}
+use Rattle.network.proofs.Putting.{putting_first, putting_more, putting_none, putting_count, putting_all}
+use Rattle.limits.specs.Counts.{moves}
+use Rattle.limits.proofs.Counts.{travel_count}
+use Rattle.limits.proofs.CountSteps.{steps_from}
+use Rattle.bounds.specs.Writing.{roads_of, cart_of, road_found, move_bounds, path_bounds}
+use Rattle.bounds.proofs.Moves.{along, path_first, path_wait, path_move, path_none}
 use Rattle.bounds.proofs.travel.travel_of.Goals as goal
-use Rattle.bounds.proofs.travel.travel_of.Goals.{Then-c-d, then-c-d, else-c-d}
+use Rattle.bounds.proofs.travel.travel_of.Goals.{Start, Then-c-d, In-loop-s, After-loop-s, then-c-d, else-c-d}
+
+-- its cells
+abbrev cells : Start → List ℕ
+cells z = z.args.paths.now.cells.now
+
+abbrev steps : Start → ℕ
+steps z = z.args.paths.now.steps
+
+abbrev path : Start → List ℕ
+path z = take (steps z) (drop z.args.at (cells z))
+
+-- all its bounds
+abbrev all : Start → List Bound
+all z = path_bounds (roads_of z.args.roads.now) (cart_of z.args.speeds) z.args.next.event (path z)
+
+-- how many there are
+many : (z : Start) → length (all z) ≡ 3 * moves (path z)
+unfolding path_bounds
+many z = travel_count (roads_of z.args.roads.now) (cart_of z.args.speeds) z.args.next.event (path z)
+
+-- the path is there
+there : (z : Start) → z.args.at + steps z ≤ length (cells z)
+there z = z.requires.path.1
 
 pub loop-s-init : goal.loop-s-init
 loop-s-init c =
-    let a = c.args in
-    let h : a.at + a.steps ≤ length a.cells.now = omega arith in
-    let first : path_bounds (roads_in a.roads a.edges.now) (cart_of a.fastest a.slowest) a.e (take a.steps (drop a.at a.cells.now))
-    ≡ along (roads_in a.roads a.edges.now) (cart_of a.fastest a.slowest) a.e (get_or a.cells.now a.at 0)
-    (visits_after (get_or a.cells.now a.at 0) 1 (steps_from a.cells.now a.at a.steps 1)) =
-    path_first (roads_in a.roads a.edges.now) (cart_of a.fastest a.slowest) a.cells.now a.at a.steps h a.e (omega arith) in (
-      omega arith,
-      omega arith,
-      refl,
-      refl,
-      refl,
-      omega (arith, moves_first a.cells.now a.at a.steps h (omega arith)),
-      ap (λ (bs : List Bound). sets a.ends.now (2 * a.k) (flat_map bound_ends bs)) (sym first),
-      ap (λ (bs : List Bound). sets a.ranges.now (2 * a.k) (flat_map bound_range bs)) (sym first),
-    )
+    let z = (goal.at.loop-s-init c).Start in
+    record {
+      events = refl;
+      putting = putting_first _ _ _ _ _ refl
+          (sym (path_first (roads_of c.args.roads.now) (cart_of c.args.speeds) (cells z) c.args.at (steps z) (there z) c.args.next.event z.requires.path.0));
+    }
+
+-- after a move
+moved : (c : Then-c-d)
+    → let z = (goal.at.Then-c-d c).Start in
+    let y : ℕ = get_or (cells z) (c.args.at + c.loop-s.s) 0 in
+    along (roads_of c.args.roads.now) (cart_of c.args.speeds) c.loop-s.f.event c.loop-s.c (visits_after c.loop-s.c c.loop-s.s (steps_from (cells z) c.args.at (steps z) c.loop-s.s))
+    ≡ move_bounds (cart_of c.args.speeds) c.loop-s.f.event (road_found (roads_of c.args.roads.now) c.loop-s.c y)
+    ++ along (roads_of c.args.roads.now) (cart_of c.args.speeds) (c.loop-s.f.event + 3) y (visits_after y (c.loop-s.s + 1) (steps_from (cells z) c.args.at (steps z) (c.loop-s.s + 1)))
+moved c =
+    let z = (goal.at.Then-c-d c).Start in
+    sym (path_move (roads_of c.args.roads.now) (cart_of c.args.speeds) (cells z) c.args.at (steps z) (there z) c.loop-s.f.event c.loop-s.c c.loop-s.s c.loop-s-test.true c.if-c-d.true)
 
 -- there is room for three bounds more, and their events are numbered
-room : (c : Then-c-d) → (c.loop-s.f + 3 ≤ 4096) × (c.loop-s.n + 3 ≤ 8192)
+room : (c : Then-c-d) → (c.loop-s.f.event + 3 ≤ 4096) × (c.loop-s.f.place + 3 ≤ 8192)
+unfolding move_bounds parts part_lengths part_bounds
 room c =
-    let a = c.args in
-    let h : a.at + a.steps ≤ length a.cells.now = omega arith in
-    let x : a.e + 3 * moves (take a.steps (drop a.at a.cells.now)) ≤ 4096 = c.requires.cells_bound.0 in
-    let y : a.k + 3 * moves (take a.steps (drop a.at a.cells.now)) ≤ 8192 = c.requires.cells_bound.1 in
-    let u : c.loop-s.f + a.k ≡ a.e + c.loop-s.n = c.loop-s.invariant.4 in
-    let v : c.loop-s.n + 3 * moves_after c.loop-s.c (steps_from a.cells.now a.at a.steps c.loop-s.s) ≡ a.k + 3 * moves (take a.steps (drop a.at a.cells.now)) = c.loop-s.invariant.5 in
-    let more : moves_after c.loop-s.c (steps_from a.cells.now a.at a.steps c.loop-s.s)
-    ≡ suc (moves_after (get_or a.cells.now (a.at + c.loop-s.s) 0) (steps_from a.cells.now a.at a.steps (c.loop-s.s + 1))) =
-    moves_move a.cells.now a.at a.steps h c.loop-s.c c.loop-s.s c.loop-s-test.true c.if-c-d.true in
-    (omega (arith, x, y, u, v, more), omega (arith, x, y, u, v, more))
+    let z = (goal.at.Then-c-d c).Start in
+    let count : c.loop-s.f.place + length (along (roads_of c.args.roads.now) (cart_of c.args.speeds) c.loop-s.f.event c.loop-s.c (visits_after c.loop-s.c c.loop-s.s (steps_from (cells z) c.args.at (steps z) c.loop-s.s))) ≡ c.args.next.place + length (all z) =
+    putting_count c.loop-s.invariant.putting in
+    let x : c.args.next.event + 3 * moves (path z) ≤ 4096 = c.requires.room.0 in
+    let y : c.args.next.place + 3 * moves (path z) ≤ 8192 = c.requires.room.1 in
+    let e : c.loop-s.f.event + c.args.next.place ≡ c.args.next.event + c.loop-s.f.place = c.loop-s.invariant.events in
+    let more : length (along (roads_of c.args.roads.now) (cart_of c.args.speeds) c.loop-s.f.event c.loop-s.c (visits_after c.loop-s.c c.loop-s.s (steps_from (cells z) c.args.at (steps z) c.loop-s.s)))
+    ≡ 3 + length (along (roads_of c.args.roads.now) (cart_of c.args.speeds) (c.loop-s.f.event + 3) (get_or (cells z) (c.args.at + c.loop-s.s) 0) (visits_after (get_or (cells z) (c.args.at + c.loop-s.s) 0) (c.loop-s.s + 1) (steps_from (cells z) c.args.at (steps z) (c.loop-s.s + 1)))) =
+    ap length (moved c) ∙ length-append (move_bounds (cart_of c.args.speeds) c.loop-s.f.event (road_found (roads_of c.args.roads.now) c.loop-s.c (get_or (cells z) (c.args.at + c.loop-s.s) 0))) _ in
+    (omega (arith, x, y, e, count, more, many z), omega (arith, x, y, e, count, more, many z))
 
 pub put_move-requires : goal.put_move-requires
-put_move-requires c =
-    let r = room (goal.at.put_move-requires c).Then-c-d in record {
-      roads_bound = search rules;
-      roads_linked = c.requires.roads_linked;
-      e_bound = (r.0, omega (arith, r.1));
-    }
+put_move-requires c = room (goal.at.put_move-requires c).Then-c-d
 
 pub overflow_add-f : goal.overflow_add-f
 overflow_add-f c = omega (arith, (room (goal.at.overflow_add-f c).Then-c-d).0)
 
-pub overflow_add-n : goal.overflow_add-n
-overflow_add-n c = omega (arith, (room (goal.at.overflow_add-n c).Then-c-d).1)
-
 pub loop-s-preserved : goal.loop-s-preserved
+unfolding move_bounds parts part_lengths part_bounds
 loop-s-preserved c =
-    let a = c.args in
-    let h : a.at + a.steps ≤ length a.cells.now = omega arith in
-    let t : c.loop-s.s < a.steps = c.loop-s-test.true in
-    let roads : List Road = roads_in a.roads a.edges.now in
-    let cart : Cart = cart_of a.fastest a.slowest in
-    let u : c.loop-s.f + a.k ≡ a.e + c.loop-s.n = c.loop-s.invariant.4 in
-    let v : c.loop-s.n + 3 * moves_after c.loop-s.c (steps_from a.cells.now a.at a.steps c.loop-s.s) ≡ a.k + 3 * moves (take a.steps (drop a.at a.cells.now)) = c.loop-s.invariant.5 in
+    let z = (goal.at.loop-s-preserved c).Start in
+    let roads : List Road = roads_of c.args.roads.now in
+    let cart : Cart = cart_of c.args.speeds in
+    let y : ℕ = get_or (cells z) (c.args.at + c.loop-s.s) 0 in
+    let after : ℕ → List Bound = λ (f : ℕ). along roads cart f y (visits_after y (c.loop-s.s + 1) (steps_from (cells z) c.args.at (steps z) (c.loop-s.s + 1))) in
+    let w0 = c.loop-s.invariant in
     elim c.if-c-d.branch [
-      | then-c-d w ↦ (
-        omega arith,
-        omega arith,
-        ap (λ (x : List ℕ). length x) w.ends-is ∙ w.put_move.auto.ends ∙ c.loop-s.invariant.2,
-        ap (λ (x : List ℕ). length x) w.ranges-is ∙ w.put_move.auto.ranges ∙ c.loop-s.invariant.3,
-        omega (arith, u, w.f-is, w.n-is),
-        omega (arith, v, w.n-is, moves_move a.cells.now a.at a.steps h c.loop-s.c c.loop-s.s t w.if-c-d.true),
-        moved_stored roads cart a.cells.now a.at a.steps h bound_ends by_ends c.loop-s.f c.loop-s.n c.loop-s.c c.loop-s.s t
-            c.loop-s.ends c.if-c-d.ends c.if-c-d.f c.if-c-d.n w.if-c-d.true w.f-is w.n-is (w.ends-is ∙ w.put_move.ensures.ends_after)
-            ∙ c.loop-s.invariant.6,
-        moved_stored roads cart a.cells.now a.at a.steps h bound_range by_range c.loop-s.f c.loop-s.n c.loop-s.c c.loop-s.s t
-            c.loop-s.ranges c.if-c-d.ranges c.if-c-d.f c.if-c-d.n w.if-c-d.true w.f-is w.n-is (w.ranges-is ∙ w.put_move.ensures.ranges_after)
-            ∙ c.loop-s.invariant.7,
-      )
-      | else-c-d w ↦ (
-        omega arith,
-        omega arith,
-        ap (λ (x : List ℕ). length x) w.ends-is ∙ c.loop-s.invariant.2,
-        ap (λ (x : List ℕ). length x) w.ranges-is ∙ c.loop-s.invariant.3,
-        omega (arith, u, w.f-is, w.n-is),
-        omega (arith, v, w.n-is, moves_wait a.cells.now a.at a.steps h c.loop-s.c c.loop-s.s t w.if-c-d.false),
-        wait_stored roads cart a.cells.now a.at a.steps h bound_ends by_ends c.loop-s.f c.loop-s.n c.loop-s.c c.loop-s.s t
-            c.loop-s.ends c.if-c-d.ends c.if-c-d.f c.if-c-d.n w.if-c-d.false w.ends-is w.f-is w.n-is
-            ∙ c.loop-s.invariant.6,
-        wait_stored roads cart a.cells.now a.at a.steps h bound_range by_range c.loop-s.f c.loop-s.n c.loop-s.c c.loop-s.s t
-            c.loop-s.ranges c.if-c-d.ranges c.if-c-d.f c.if-c-d.n w.if-c-d.false w.ranges-is w.f-is w.n-is
-            ∙ c.loop-s.invariant.7,
-      )
+      | then-c-d w ↦ rw (w.out-is, w.f-is) (record {
+        events = omega (arith, w0.events);
+        putting = putting_more w0.putting w.put_move.new.out (c.loop-s.f.place + 3) (move_bounds cart c.loop-s.f.event (road_found roads c.loop-s.c y)) (after (c.loop-s.f.event + 3))
+            (sym (path_move roads cart (cells z) c.args.at (steps z) (there z) c.loop-s.f.event c.loop-s.c c.loop-s.s c.loop-s-test.true w.if-c-d.true)) w.put_move.ensures refl;
+      })
+      | else-c-d w ↦ rw (w.out-is, w.f-is) (record {
+        events = w0.events;
+        putting = putting_none w0.putting c.loop-s.f.place (after c.loop-s.f.event)
+            (sym (path_wait roads cart (cells z) c.args.at (steps z) (there z) c.loop-s.f.event c.loop-s.c c.loop-s.s c.loop-s-test.true w.if-c-d.false)) refl;
+      })
     ]
 
 pub returns : goal.returns
 returns c =
-    let a = c.args in
-    let h : a.at + a.steps ≤ length a.cells.now = omega arith in
-    let roads : List Road = roads_in a.roads a.edges.now in
-    let cart : Cart = cart_of a.fastest a.slowest in
-    let bs : List Bound = along roads cart c.loop-s.f c.loop-s.c (visits_after c.loop-s.c c.loop-s.s (steps_from a.cells.now a.at a.steps c.loop-s.s)) in
-    let none : bs ≡ [] = path_none roads cart a.cells.now a.at a.steps h c.loop-s.f c.loop-s.c c.loop-s.s c.loop-s-test.false in record {
-      value = omega (arith, c.loop-s.invariant.5, moves_none a.cells.now a.at a.steps h c.loop-s.c c.loop-s.s c.loop-s-test.false);
-      ends_after = none_stored bound_ends c.loop-s.ends (2 * c.loop-s.n) bs none ∙ c.loop-s.invariant.6;
-      ranges_after = none_stored bound_range c.loop-s.ranges (2 * c.loop-s.n) bs none ∙ c.loop-s.invariant.7;
+    let z = (goal.at.returns c).Start in
+    let over : steps z ≤ c.loop-s.s = omega arith in
+    let none : along (roads_of c.args.roads.now) (cart_of c.args.speeds) c.loop-s.f.event c.loop-s.c (visits_after c.loop-s.c c.loop-s.s (steps_from (cells z) c.args.at (steps z) c.loop-s.s)) ≡ [] =
+    path_none (roads_of c.args.roads.now) (cart_of c.args.speeds) (cells z) c.args.at (steps z) (there z) c.loop-s.f.event c.loop-s.c c.loop-s.s over in
+    let w = c.loop-s.invariant in
+    record {
+      event = omega (arith, w.events, putting_count w.putting, ap length none, many z);
+      place = omega (arith, putting_count w.putting, ap length none, many z);
+      left = putting_all w.putting none;
     }

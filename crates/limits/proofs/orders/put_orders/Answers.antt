@@ -1,64 +1,72 @@
--- `limits::orders::put_orders` meets its contract. The loop's invariant: the bounds from visit `v` on are yet to be written. Assumes nothing.
-use Prim.Native.Nat.{ℕ, ◌+◌, ◌≤◌, ◌<◌, ◌-◌}
+-- `limits::orders::put_orders` meets its contract. The loop's invariant: the bounds from visit `v` on are yet to be put. Assumes nothing.
+use Rattle.std.specs.Prelude.{ℕ, ◌≡◌, ◌+◌, ◌-◌, ◌<◌, List, length}
 use native.Mathlib.Omega.{arith}
-use mathlib.Core.Path.{◌≡◌, ap, ◌∙◌}
-use mathlib.Core.List.{List}
-use lib.ListN.{length}
+use mathlib.Core.Path.{refl, ap, sym, subst}
+use lib.ListN.{length-append}
 use Rattle.network.specs.Bounds.{Bound}
-use Rattle.limits.specs.Row.{Entry, later_bounds, row_from, row_bounds, entry_in, row_in}
+use Rattle.network.specs.declared.BoundArrays.{BoundArrays}
+use Rattle.network.specs.BoundArrays.{Puts}
+use Rattle.network.proofs.Putting.{Putting, putting_first, putting_more, putting_none, putting_count, putting_all}
+use Rattle.limits.specs.Row.{Entry, row_from, row_bounds, row_in, bounds_from}
 use Rattle.limits.proofs.CountSteps.{row_more, row_same, row_none}
-use Rattle.limits.proofs.OrderSteps.{write_first, write_some, write_none, few_some, written_all}
 use Rattle.limits.proofs.orders.put_orders.Goals as goal
-use Rattle.limits.proofs.orders.put_orders.Goals.{then-numbers-v, else-numbers-v}
+use Rattle.limits.proofs.orders.put_orders.Goals.{then-links-v, else-links-v}
 
 pub loop-v-init : goal.loop-v-init
 unfolding row_bounds
 loop-v-init c =
-    let a = c.args in
-    let all : List Entry = row_in a.numbers.now a.times.now a.places.now a.n 0 in
-    let whole : a.n - 0 ≡ a.n = omega arith in (
-      omega arith,
-      write_first (row_bounds all) (row_from all (row_in a.numbers.now a.times.now a.places.now (a.n - 0) 0)) 0 a.ends.now a.ranges.now
-          (ap (λ (m : ℕ). row_from all (row_in a.numbers.now a.times.now a.places.now m 0)) whole),
-    )
+    let r = c.args.links.now.row in
+    let all : List Entry = row_in r.numbers.now r.times.now r.places.now r.n 0 in
+    let whole : r.n - 0 ≡ r.n = omega arith in
+    putting_first c.args.out.now c.args.k c.args.k (row_bounds all) (row_from all (row_in r.numbers.now r.times.now r.places.now (r.n - 0) 0)) refl
+    (ap (λ (m : ℕ). row_from all (row_in r.numbers.now r.times.now r.places.now m 0)) whole)
 
-pub put_later-k-requires : goal.put_later-k-requires
-put_later-k-requires c =
-    let a = c.args in
-    let all : List Entry = row_in a.numbers.now a.times.now a.places.now a.n 0 in
-    let some : List Bound = later_bounds (entry_in a.numbers.now a.times.now a.places.now c.loop-v.v) 0 all in
-    let few : c.loop-v.k + length some ≤ 90112 = few_some (row_bounds all) 0 a.ends.now a.ranges.now (row_from all (row_in a.numbers.now a.times.now a.places.now (a.n - c.loop-v.v) c.loop-v.v)) c.loop-v.k c.loop-v.ends c.loop-v.ranges c.loop-v.invariant.1
-    some (row_from all (row_in a.numbers.now a.times.now a.places.now (a.n - (c.loop-v.v + 1)) (c.loop-v.v + 1)))
-    (row_more a.numbers.now a.times.now a.places.now all a.n c.loop-v.v c.loop-v-test.true c.if-numbers-v.true) 90112 (omega (arith, c.requires.n_len_bound)) in record {
-      n_bound = (omega arith, omega arith, c.requires.n_bound.1);
-      n_in_bounds = c.requires.n_in_bounds;
-      v_bound = few;
-    }
+pub put_later-m-requires-clause-k_bound : goal.put_later-m-requires-clause-k_bound
+put_later-m-requires-clause-k_bound c =
+    let r = c.args.links.now.row in
+    let l = c.loop-v in
+    let all : List Entry = row_in r.numbers.now r.times.now r.places.now r.n 0 in
+    let t : l.v + 1 < r.n = omega (arith, c.loop-v-test.true) in
+    let some : List Bound = bounds_from r.numbers.now r.times.now r.places.now r.n l.v in
+    let rest : List Bound = row_from all (row_in r.numbers.now r.times.now r.places.now (r.n - (l.v + 1)) (l.v + 1)) in
+    omega (
+      arith,
+      c.requires,
+      putting_count l.invariant,
+      ap (λ (bs : List Bound). length bs) (row_more r.numbers.now r.times.now r.places.now all r.n l.v t c.if-links-v.true),
+      length-append some rest,
+    )
 
 pub loop-v-preserved : goal.loop-v-preserved
 loop-v-preserved c =
-    let a = c.args in
-    let all : List Entry = row_in a.numbers.now a.times.now a.places.now a.n 0 in
-    let some : List Bound = later_bounds (entry_in a.numbers.now a.times.now a.places.now c.loop-v.v) 0 all in
-    let rest : List Bound = row_from all (row_in a.numbers.now a.times.now a.places.now (a.n - (c.loop-v.v + 1)) (c.loop-v.v + 1)) in
-    let t : c.loop-v.v + 1 < a.n = c.loop-v-test.true in (
-      omega arith,
-      elim c.if-numbers-v.branch [
-        | then-numbers-v w ↦ write_some (row_bounds all) 0 a.ends.now a.ranges.now (row_from all (row_in a.numbers.now a.times.now a.places.now (a.n - c.loop-v.v) c.loop-v.v)) c.loop-v.k c.loop-v.ends c.loop-v.ranges c.loop-v.invariant.1
-            some rest (row_more a.numbers.now a.times.now a.places.now all a.n c.loop-v.v t w.if-numbers-v.true) c.if-numbers-v.k c.if-numbers-v.ends c.if-numbers-v.ranges
-            (w.k-is ∙ w.put_later-k.ensures.value) (w.ends-is ∙ w.put_later-k.ensures.ends_after.0) (w.ranges-is ∙ w.put_later-k.ensures.ends_after.1)
-        | else-numbers-v w ↦ write_none (row_bounds all) 0 a.ends.now a.ranges.now (row_from all (row_in a.numbers.now a.times.now a.places.now (a.n - c.loop-v.v) c.loop-v.v)) c.loop-v.k c.loop-v.ends c.loop-v.ranges c.loop-v.invariant.1
-            rest (row_same a.numbers.now a.times.now a.places.now all a.n c.loop-v.v t w.if-numbers-v.false) c.if-numbers-v.k c.if-numbers-v.ends c.if-numbers-v.ranges
-            w.k-is w.ends-is w.ranges-is
-      ],
+    let r = c.args.links.now.row in
+    let l = c.loop-v in
+    let all : List Entry = row_in r.numbers.now r.times.now r.places.now r.n 0 in
+    let some : List Bound = bounds_from r.numbers.now r.times.now r.places.now r.n l.v in
+    let rest : List Bound = row_from all (row_in r.numbers.now r.times.now r.places.now (r.n - (l.v + 1)) (l.v + 1)) in
+    let t : l.v + 1 < r.n = omega (arith, c.loop-v-test.true) in
+    elim c.if-links-v.branch [
+      | then-links-v w ↦ putting_more l.invariant c.if-links-v.out c.if-links-v.m some rest (row_more r.numbers.now r.times.now r.places.now all r.n l.v t w.if-links-v.true)
+          (subst (λ (o : BoundArrays). Puts l.out o l.m some) (sym w.out-is) w.put_later-m.ensures.put)
+          (omega (arith, w.m-is, w.put_later-m.ensures.value))
+      | else-links-v w ↦ subst (λ (o : BoundArrays). Putting c.args.out.now o c.args.k c.if-links-v.m (row_bounds all) rest) (sym w.out-is)
+          (putting_none l.invariant c.if-links-v.m rest (row_same r.numbers.now r.times.now r.places.now all r.n l.v t w.if-links-v.false) w.m-is)
+    ]
+
+pub returns-clause-value : goal.returns-clause-value
+returns-clause-value c =
+    let r = c.args.links.now.row in
+    let l = c.loop-v in
+    let all : List Entry = row_in r.numbers.now r.times.now r.places.now r.n 0 in
+    omega (
+      arith,
+      putting_count l.invariant,
+      ap (λ (bs : List Bound). length bs) (row_none r.numbers.now r.times.now r.places.now all r.n l.v (omega (arith, c.loop-v-test.false))),
     )
 
-pub returns : goal.returns
-returns c =
-    let a = c.args in
-    let all : List Entry = row_in a.numbers.now a.times.now a.places.now a.n 0 in
-    let (k, (e, r)) = written_all (row_bounds all) 0 a.ends.now a.ranges.now (row_from all (row_in a.numbers.now a.times.now a.places.now (a.n - c.loop-v.v) c.loop-v.v)) c.loop-v.k c.loop-v.ends c.loop-v.ranges c.loop-v.invariant.1
-    (row_none a.numbers.now a.times.now a.places.now all a.n c.loop-v.v c.loop-v-test.false) in record {
-      value = omega (arith, k);
-      ends_after = (e, r);
-    }
+pub returns-clause-put : goal.returns-clause-put
+returns-clause-put c =
+    let r = c.args.links.now.row in
+    let l = c.loop-v in
+    let all : List Entry = row_in r.numbers.now r.times.now r.places.now r.n 0 in
+    putting_all l.invariant (row_none r.numbers.now r.times.now r.places.now all r.n l.v (omega (arith, c.loop-v-test.false)))

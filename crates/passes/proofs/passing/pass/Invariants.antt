@@ -1,12 +1,11 @@
--- `passes::passing::pass` meets its contract: after i bounds, the pass of those left from the sums and parents so far is the whole pass.
+-- `passes::passing::pass` meets its contract: after i bounds their arcs are followed.
 -- Assumes nothing.
-use Prim.Native.Nat.{◌-◌}
-use Rattle.network.specs.BoundArrays.{bounds_in}
-use Rattle.passes.proofs.BothWays.{Turn}
+use mathlib.Core.List.{flat_map}
+use lib.ListN.{take}
+use Rattle.schedule.specs.Timetable.{ways}
+use Rattle.passes.specs.Marks.{Followed}
+use Rattle.passes.specs.Networks.{bounds_of}
 use Rattle.passes.proofs.passing.pass.Given as goal
 
 abbrev pub invariant-loop-i : goal.invariant-loop-i
-invariant-loop-i l = Turn (bounds_in l.bounds l.ends l.ranges) l.old l.initial.parents l.i l.new l.parents
-
-abbrev pub decreases-loop-i : goal.decreases-loop-i
-decreases-loop-i l = l.bounds - l.i
+invariant-loop-i l = Followed (bounds_of l.net) (flat_map ways (take l.i (bounds_of l.net))) 0 l.old l.initial.new l.new l.initial.parents l.parents

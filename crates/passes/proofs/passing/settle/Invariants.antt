@@ -1,13 +1,7 @@
 -- `passes::passing::settle` meets its contract: the places of `new` are copied one by one, and the last that differed is kept in mind.
 -- Assumes nothing.
-use Prim.Native.Nat.{◌-◌}
-use mathlib.Core.Path.{◌≡◌}
-use lib.ListN.{length}
 use Rattle.passes.proofs.Copying.{Copied}
 use Rattle.passes.proofs.passing.settle.Given as goal
 
 abbrev pub invariant-loop-i : goal.invariant-loop-i
-invariant-loop-i l = Copied l.new l.initial.old l.i l.old l.changed × (length l.old ≡ length l.new)
-
-abbrev pub decreases-loop-i : goal.decreases-loop-i
-decreases-loop-i l = length l.new - l.i
+invariant-loop-i l = Copied l.new l.initial.old l.i l.old l.changed

@@ -1,12 +1,8 @@
--- `passes::sweeping::sweeps` meets its contract: each sweep keeps what sweeps keep, and there are no more than asked for.
+-- `passes::sweeping::sweeps` meets its contract: each sweep keeps what sweeps keep.
 -- Assumes nothing.
-use Prim.Native.Nat.{◌-◌, ◌≤◌, ◌<◌}
-use lib.ListN.{length}
-use Rattle.passes.proofs.Sweeps.{Kept}
+use Prim.Native.Nat.{◌<◌}
+use Rattle.passes.specs.Networks.{Kept}
 use Rattle.passes.proofs.sweeping.sweeps.Given as goal
 
 abbrev pub invariant-loop-k : goal.invariant-loop-k
-invariant-loop-k l = Kept l.bounds (length l.initial.values) l.ends l.ranges l.values l.parents × (l.event < length l.initial.values) × (l.k ≤ l.most)
-
-abbrev pub decreases-loop-k : goal.decreases-loop-k
-decreases-loop-k l = l.most - l.k
+invariant-loop-k l = Kept l.net l.values l.parents × (l.event < l.net.events)

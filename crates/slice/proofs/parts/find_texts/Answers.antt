@@ -1,42 +1,40 @@
 -- `slice::parts::find_texts` meets its contract: zeros do not follow one of the texts or the times, or they follow all. Assumes nothing.
-use native.Mathlib.Omega.{arith}
-use Rattle.slice.proofs.Laid.{text_short, roads_broken, carts_broken, paths_broken, log_broken, times_broken, none_broken}
-use mathlib.Core.Bool.{not}
-use mathlib.Core.Path.{ap}
+use Rattle.std.proofs.Common.{arith, ◌∙◌, ◌*◌, ap}
+use Rattle.slice.specs.Holding.{only_zeros}
+use Rattle.slice.specs.Texts.{texts_laid}
+use Rattle.slice.proofs.Laid.{text_short, text_broken, text_ended, rest_of, texts_found}
 use Rattle.slice.proofs.parts.find_texts.Goals as goal
 
-pub returns-then-not-all_zero : goal.returns-then-not-all_zero
-returns-then-not-all_zero c =
-    roads_broken _ _ _ _ _ _ _ _ _ c.text_length-r.ensures c.text_length-c.ensures c.text_length-p.ensures c.text_length-n.ensures _
-    c.all_zero.ensures (ap not c.if-not-all_zero.true)
+pub returns-in_err-r : goal.returns-in_err-r
+unfolding texts_laid
+returns-in_err-r c = rw (text_broken c.args.roads.now c.in_err-r.ensures) c.from_residual.ensures
 
-pub returns-then-not-all_zero-2 : goal.returns-then-not-all_zero-2
-returns-then-not-all_zero-2 c =
-    carts_broken _ _ _ _ _ _ _ _ _ c.text_length-r.ensures c.text_length-c.ensures c.text_length-p.ensures c.text_length-n.ensures _
-    c.all_zero-2.ensures (ap not c.if-not-all_zero-2.true)
+pub returns-in_err-c : goal.returns-in_err-c
+unfolding texts_laid
+returns-in_err-c c =
+    rw ((text_ended c.args.roads.now _ c.in_ok-r.ensures).0, text_broken c.args.carts.now c.in_err-c.ensures) c.from_residual-in_err-c.ensures
 
-pub returns-then-not-all_zero-3 : goal.returns-then-not-all_zero-3
-returns-then-not-all_zero-3 c =
-    paths_broken _ _ _ _ _ _ _ _ _ c.text_length-r.ensures c.text_length-c.ensures c.text_length-p.ensures c.text_length-n.ensures _
-    c.all_zero-3.ensures (ap not c.if-not-all_zero-3.true)
+pub returns-in_err-p : goal.returns-in_err-p
+unfolding texts_laid
+returns-in_err-p c =
+    rw ((text_ended c.args.roads.now _ c.in_ok-r.ensures).0, (text_ended c.args.carts.now _ c.in_ok-c.ensures).0, text_broken c.args.paths.now c.in_err-p.ensures)
+    c.from_residual-in_err-p.ensures
 
-pub returns-then-not-all_zero-4 : goal.returns-then-not-all_zero-4
-returns-then-not-all_zero-4 c =
-    log_broken _ _ _ _ _ _ _ _ _ c.text_length-r.ensures c.text_length-c.ensures c.text_length-p.ensures c.text_length-n.ensures _
-    c.all_zero-4.ensures (ap not c.if-not-all_zero-4.true)
+pub returns-in_err-n : goal.returns-in_err-n
+unfolding texts_laid
+returns-in_err-n c =
+    rw (
+      (text_ended c.args.roads.now _ c.in_ok-r.ensures).0,
+      (text_ended c.args.carts.now _ c.in_ok-c.ensures).0,
+      (text_ended c.args.paths.now _ c.in_ok-p.ensures).0,
+      text_broken c.args.log.now c.in_err-n.ensures,
+    ) c.from_residual-in_err-n.ensures
 
 pub overflow_mul-n : goal.overflow_mul-n
-overflow_mul-n c =
-    let a = c.args in
-    omega (arith, c.text_length-n.ensures, text_short a.log.now, c.requires)
-
-pub returns-then-not-all_zero-5 : goal.returns-then-not-all_zero-5
-returns-then-not-all_zero-5 c =
-    times_broken _ _ _ _ _ _ _ _ _ c.text_length-r.ensures c.text_length-c.ensures c.text_length-p.ensures c.text_length-n.ensures _
-    c.all_zero-5.ensures (ap not c.if-not-all_zero-5.true)
+overflow_mul-n c = omega (arith, (text_ended c.args.log.now _ c.in_ok-n.ensures).1, text_short c.args.log.now, c.requires)
 
 pub returns : goal.returns
 returns c =
-    none_broken _ _ _ _ _ _ _ _ _ c.text_length-r.ensures c.text_length-c.ensures c.text_length-p.ensures c.text_length-n.ensures _ _ _ _ _
-    c.all_zero.ensures c.all_zero-2.ensures c.all_zero-3.ensures c.all_zero-4.ensures c.all_zero-5.ensures
-    (ap not c.if-not-all_zero.false) (ap not c.if-not-all_zero-2.false) (ap not c.if-not-all_zero-3.false) (ap not c.if-not-all_zero-4.false) (ap not c.if-not-all_zero-5.false)
+    c.then_some.ensures
+    ∙ texts_found _ _ _ _ _ _ _ _ _ c.in_ok-r.ensures c.in_ok-c.ensures c.in_ok-p.ensures c.in_ok-n.ensures _
+    (c.all_zero.ensures ∙ ap only_zeros (c.part-behind.ensures ∙ rest_of c.args.times.now (8 * c.in_ok-n.n)))

@@ -1,63 +1,34 @@
--- `tables::carts::carts_from` meets its contract. The loop's invariant: the carts taken stand in the array, and the rest of the table says what the whole does.
+-- `tables::carts::carts_from` meets its contract. The loop's invariant: the carts taken stand in the array, and the records that are left say what the whole does.
 -- Assumes nothing.
-use Prim.Native.Nat.{◌≤◌, ◌-◌}
-use native.Mathlib.Omega.{arith}
-use mathlib.Core.Path.{◌≡◌, refl, sym, ap, ◌∙◌}
-use lib.ListN.{length, drop, length-drop}
-use Rattle.rfc4180.specs.Records.{first_record}
-use Rattle.rfc4180.proofs.Reading.{rest_is, first_record_fits}
+use Rattle.std.proofs.Common.{rules, arith, Err, Ok, ◌≡◌, refl, sym, ap, ◌∙◌, ◌+◌}
+use Rattle.floor.specs.declared.Table.TheVariants.{Carts}
 use Rattle.floor.specs.Carts.{cart}
 use Rattle.tables.specs.Arrays.{cart_numbers}
-use Rattle.tables.proofs.Turns.{first_turn, last_turn}
+use Rattle.tables.proofs.Turns.{first_turn, last_turn, refused_why}
 use Rattle.tables.proofs.CartRecords.{cart_refused, cart_kept}
 use Rattle.tables.proofs.carts.carts_from.Goals as goal
-use Rattle.tables.proofs.carts.carts_from.Goals.{After-first_record-row}
 
--- the record whose turn it is
-row : (c : After-first_record-row) →
-    c.first_record-row.result.now ≡ first_record (drop c.loop-at.at c.args.table.now)
-row c =
-    c.first_record-row.ensures ∙ ap first_record (rest_is c.args.table.now c.loop-at.at)
+pub loop-row-init : goal.loop-row-init
+loop-row-init c = rw c.into_iter-row-iterator.ensures.into_iter_gives (omega arith, refl, first_turn cart cart_numbers _ _ c.requires.1)
 
--- it ends within the table
-row_fits : (c : After-first_record-row) →
-    length c.first_record-row.result.now ≤ length c.args.table.now - c.loop-at.at
-row_fits c =
-    let t = c.args.table.now in
-    omega (arith, ap length (row c), first_record_fits (drop c.loop-at.at t), length-drop c.loop-at.at t)
+pub take_cart-requires : goal.take_cart-requires
+take_cart-requires c = (c.loop-row.invariant.0, omega (arith, c.loop-row.invariant.1, c.requires.0))
 
-pub loop-at-init : goal.loop-at-init
-loop-at-init c =
-    let a = c.args in
-    (omega arith, refl, first_turn cart cart_numbers a.table.now a.carts.now a.start c.requires.1)
+pub returns-in_err-map_err : goal.returns-in_err-map_err
+returns-in_err-map_err c =
+    let (why, e, q) = refused_why _ c.take_cart.result c.map_err.result c.map_err.ensures.cases _ c.in_err-map_err.was in
+    let f : c.in_err-map_err.field-0.0 ≡ record { reason = why; table = Carts; row = c.loop-row.n + 1 } = search rules in
+    let is : c.from_residual.result ≡ Err c.in_err-map_err.field-0.0 = search rules in
+    let (the-answer, the-left) = cart_refused _ _ _ _ c.loop-row.n c.loop-row.invariant.2 _ _ c.in-Some.ensures.steps why _ (sym e ∙ c.take_cart.ensures.answer) in
+    record { answer = is ∙ ap Err f ∙ the-answer; left = the-left }
 
-pub take_cart-x-requires : goal.take_cart-x-requires
-take_cart-x-requires c =
-    (c.loop-at.invariant.0, omega (arith, c.loop-at.invariant.1, c.requires.0))
-
-pub returns-in-Refused : goal.returns-in-Refused
-returns-in-Refused c =
-    let (the-answer, the-left) = cart_refused _ _ _ _ c.loop-at.at c.loop-at.n c.loop-at.invariant.2 c.loop-at-test.true _ (row (goal.at.returns-in-Refused c).After-first_record-row) _ _
-    (sym c.in-Refused.is ∙ c.take_cart-x.ensures.answer) in
-    record { answer = the-answer; left = the-left }
-
-pub overflow_add-at : goal.overflow_add-at
-overflow_add-at c = omega (arith, row_fits (goal.at.overflow_add-at c).After-first_record-row)
-
-pub overflow_add-at-in-loop-at : goal.overflow_add-at-in-loop-at
-overflow_add-at-in-loop-at c = omega (arith, row_fits (goal.at.overflow_add-at-in-loop-at c).After-first_record-row)
-
-pub loop-at-smaller : goal.loop-at-smaller
-loop-at-smaller c = omega arith
-
-pub loop-at-preserved : goal.loop-at-preserved
-loop-at-preserved c =
-    let p = c.requires in
-    let again = cart_kept _ _ _ _ c.loop-at.at c.loop-at.n c.loop-at.invariant.2 c.loop-at-test.true _ (row (goal.at.loop-at-preserved c).After-first_record-row) _ p.0
-    (sym c.in_default.is ∙ c.take_cart-x.ensures.answer) c.take_cart-x.ensures.left in
-    (again.0, c.take_cart-x.auto.carts ∙ c.loop-at.invariant.1, again.1)
+pub loop-row-preserved : goal.loop-row-preserved
+loop-row-preserved c =
+    let taken : c.take_cart.result ≡ Ok tt = search rules in
+    let again = cart_kept _ _ _ _ c.loop-row.n c.loop-row.invariant.2 _ _ c.in-Some.ensures.steps _ c.requires.0 (sym taken ∙ c.take_cart.ensures.answer) c.take_cart.ensures.left in
+    (again.0, c.take_cart.auto.carts ∙ c.loop-row.invariant.1, again.1)
 
 pub returns : goal.returns
 returns c =
-    let (the-answer, the-left) = last_turn cart cart_numbers _ _ _ _ c.loop-at.at c.loop-at.n c.loop-at.invariant.2 c.loop-at-test.false in
+    let (the-answer, the-left) = last_turn cart cart_numbers _ _ _ _ c.loop-row.n c.loop-row.invariant.2 c.in-None.ensures.steps.0 in
     record { answer = the-answer; left = the-left }

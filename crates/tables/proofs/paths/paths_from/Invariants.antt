@@ -1,6 +1,5 @@
 -- `tables::paths::paths_from` meets its contract. The loop's invariant: the paths before stand in the array, and the rest of the table says what the
 -- whole does. Assumes nothing.
-use Prim.Native.Nat.{◌-◌}
 use mathlib.Core.Path.{◌≡◌}
 use mathlib.Core.List.{[]}
 use lib.ListN.{length}
@@ -10,9 +9,7 @@ use Rattle.floor.specs.Paths.{path}
 use Rattle.tables.proofs.PathTurns.{PathTurn}
 use Rattle.tables.proofs.paths.paths_from.Given as goal
 
-abbrev pub invariant-loop-at : goal.invariant-loop-at
-invariant-loop-at l = (length l.cells ≡ length l.initial.cells)
-    × PathTurn (records_in_order path [] (records l.table)) l.table (length l.initial.cells) l.cells l.at l.n l.w
-
-abbrev pub decreases-loop-at : goal.decreases-loop-at
-decreases-loop-at l = length l.table - l.at
+abbrev pub invariant-loop-row : goal.invariant-loop-row
+invariant-loop-row l =
+    (length l.cells ≡ length l.initial.cells)
+    × PathTurn (records_in_order path [] (records l.fn.rows.rest.now)) (records l.row-iterator.rest.now) (length l.initial.cells) l.cells l.n l.w

@@ -3,7 +3,7 @@ use Prim.Native.Nat.{ℕ, suc, ◌+◌, ◌*◌}
 use native.Mathlib.Omega.{arith}
 use mathlib.Core.Path.{◌≡◌, sym, ◌∙◌}
 use mathlib.Core.List.{List, [], ◌∷◌}
-use lib.ListN.{set, length-set}
+use lib.ListN.{set, length-set, get_or}
 use lib.Seq.{sets}
 use Rattle.tables.specs.Arrays.{road_numbers}
 use Rattle.tables.proofs.Indexes.{four_stored, stored_indexed, stored_bucket, one_indexed}
@@ -31,9 +31,15 @@ unfolding road_numbers
 returns c =
     let a = c.args in
     let e = c.bucket_of-b.ensures in
-    let s : List ℕ = four_stored a.n a.roads.now a.from a.to a.len a.margin in
-    let here = e.0 ∙ sym (stored_bucket a.n a.roads.now a.from a.to a.len a.margin (omega arith)) in record {
-      left = four_stores a.roads.now (4 * a.n) a.from a.to a.len a.margin;
-      index = one_indexed s a.heads.now a.nexts.now a.n
-          (stored_indexed a.n a.roads.now a.from a.to a.len a.margin a.heads.now a.nexts.now c.requires.heads_len.2) c.bucket_of-b.result here e.1 (omega arith) (omega arith);
+    let k = c.requires.linked in
+    let s : List ℕ = four_stored a.n a.roads.now a.road.from a.road.to a.road.length a.road.margin in
+    let here = e.0 ∙ sym (stored_bucket a.n a.roads.now a.road.from a.road.to a.road.length a.road.margin (omega arith)) in record {
+      left = four_stores a.roads.now (4 * a.n) a.road.from a.road.to a.road.length a.road.margin;
+      index = record {
+        heads_long = length-set a.index.now.heads.now c.bucket_of-b.result (a.n + 1) ∙ k.heads_long;
+        nexts_long = length-set a.index.now.nexts.now a.n (get_or a.index.now.heads.now c.bucket_of-b.result 0) ∙ k.nexts_long;
+        indexed = one_indexed s a.index.now.heads.now a.index.now.nexts.now a.n
+            (stored_indexed a.n a.roads.now a.road.from a.road.to a.road.length a.road.margin a.index.now.heads.now a.index.now.nexts.now k.indexed) c.bucket_of-b.result here e.1
+            (omega (arith, e.1, k.heads_long)) (omega (arith, c.requires.n_bound.0, k.nexts_long));
+      };
     }

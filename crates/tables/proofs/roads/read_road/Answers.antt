@@ -1,25 +1,37 @@
 -- `tables::roads::read_road` meets its contract, case by case. Assumes nothing.
-use mathlib.Core.Path.{sym, ◌∙◌}
+use Rattle.std.proofs.Common.{rules, ◌≡◌, ◌∙◌, Some, None, Err, option_map}
+use Rattle.std.specs.Prelude.{Result}
+use Rattle.floor.specs.declared.Reason.{Reason}
+use Rattle.floor.specs.declared.Reason.TheVariants.{Layout}
+use Rattle.floor.specs.declared.Road.{Road}
+use Rattle.rfc4180.specs.Records.{fields}
+use Rattle.rfc4180.specs.Number.{numbers}
+use Rattle.rfc4180.specs.Answers.{counted}
 use Rattle.rfc4180.proofs.Reading.{answered_none}
 use Rattle.tables.proofs.RoadRecords.{read_malformed, read_other, read_out, read_in}
 use mathlib.Core.Bool.{not}
 use mathlib.Core.Path.{ap}
 use Rattle.tables.proofs.roads.read_road.Goals as goal
+use Rattle.tables.proofs.roads.read_road.Goals.{In_ok-numbers}
 
-pub returns-in_default : goal.returns-in_default
-returns-in_default c = read_malformed _ (answered_none _ (sym c.in_default.is ∙ c.read_numbers-x.ensures.answer))
+-- the numbers that the record has
+there : (c : In_ok-numbers) → Some c.in_ok-numbers.numbers ≡ option_map counted (numbers (fields c.args.row.now))
+there c = search rules
 
-pub returns-then-k-ne4 : goal.returns-then-k-ne4
-returns-then-k-ne4 c =
-    let n = c.read_numbers-x in
-    read_other _ _ _ _ (sym c.in-Numbers.is ∙ c.read_numbers-x.ensures.answer) c.read_numbers-x.ensures.left c.if-k-ne4.true
+pub returns-in_err-numbers : goal.returns-in_err-numbers
+returns-in_err-numbers c =
+    let none : None ≡ option_map counted (numbers (fields c.args.row.now)) = search rules in
+    let is : ◌≡◌ {A = Result Road Reason} c.from_residual.result (Err Layout) = search rules in
+    is ∙ read_malformed _ (answered_none _ none)
+
+pub returns-then-numbers-ne4 : goal.returns-then-numbers-ne4
+returns-then-numbers-ne4 c =
+    read_other _ _ _ _ (there (goal.at.returns-then-numbers-ne4 c).In_ok-numbers) c.read_numbers.ensures.left c.if-numbers-ne4.true
 
 pub returns-then-not-in_ranges : goal.returns-then-not-in_ranges
 returns-then-not-in_ranges c =
-    let n = c.read_numbers-x in
-    read_out _ _ _ _ (sym c.in-Numbers.is ∙ c.read_numbers-x.ensures.answer) c.read_numbers-x.ensures.left c.if-k-ne4.false c.in_ranges.ensures (ap not c.if-not-in_ranges.true)
+    read_out _ _ _ _ (there (goal.at.returns-then-not-in_ranges c).In_ok-numbers) c.read_numbers.ensures.left c.if-numbers-ne4.false c.in_ranges.ensures (ap not c.if-not-in_ranges.true)
 
 pub returns : goal.returns
 returns c =
-    let n = c.read_numbers-x in
-    read_in _ _ _ _ (sym c.in-Numbers.is ∙ c.read_numbers-x.ensures.answer) c.read_numbers-x.ensures.left c.if-k-ne4.false c.in_ranges.ensures (ap not c.if-not-in_ranges.false)
+    read_in _ _ _ _ (there (goal.at.returns c).In_ok-numbers) c.read_numbers.ensures.left c.if-numbers-ne4.false c.in_ranges.ensures (ap not c.if-not-in_ranges.false)
