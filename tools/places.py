@@ -39,9 +39,25 @@ def parameters(text):
         yield count + some
 
 
+def facts(root):
+    """the facts that three functions of a crate or more ask for, each with how many do: requirements, taken apart at each ×"""
+    for crate in glob.glob(root + "/crates/*"):
+        asked = {}
+        for path in glob.glob(crate + "/src/*.rt"):
+            text = re.sub(r" *//[^\n]*", "", open(path).read())
+            for function in re.split(r"\bfn (?=\w+[<(])", text)[1:]:
+                for m in re.finditer(r"^ *requires(?: \w+)? \{(.*)\}$", function, re.M):
+                    for fact in re.sub(r"×(?![^(]*\))", "\n", m.group(1)).split("\n"):
+                        fact = re.sub(r"^\((.*)\)$", r"\1", fact.strip())
+                        asked.setdefault(fact, set()).add(path + function.split("(")[0])
+        yield from (len(where) for where in asked.values() if len(where) >= 3)
+
+
 def counts(root):
     text = re.sub(r" *//[^\n]*", "", "\n".join(open(path).read() for path in sorted(glob.glob(root + "/crates/*/src/*.rt"))))
     found = {(point, what): len(re.findall(pattern, text, re.M)) for point, what, pattern in PATTERNS}
+    found["5", "facts that three functions or more ask for"] = len(list(facts(root)))
+    found["5", "how often these are asked for"] = sum(facts(root))
     for least in (5, 7):
         found["5", f"functions of {least} parameters or more"] = sum(n >= least for n in parameters(text))
     for folder in ("specs", "proofs"):

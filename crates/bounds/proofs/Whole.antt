@@ -22,7 +22,7 @@ use Rattle.network.specs.Bounds.{Bound, start_bounds, travel_bounds, order_bound
 use Rattle.limits.specs.Limits.{of_paths}
 use Rattle.limits.specs.Counts.{total, moves}
 use Rattle.limits.specs.Orders.{first_events, events_kept, firsts_fitting, orders_fitting}
-use Rattle.limits.proofs.Counts.{path_points, events_are, route_count, travels_count, start_count, bounds_are}
+use Rattle.limits.proofs.Counts.{path_points, events_are, bounds_are}
 use Rattle.limits.proofs.LimitSteps.{all_events}
 use Rattle.limits.proofs.Firsts.{firsts_from, first_events_are, firsts_count, kept_says, fit_there}
 use Rattle.limits.proofs.OrderSteps.{orders_numbered}
@@ -46,11 +46,11 @@ pub row_last : (f : ℕ → Bound) (s : List ℕ) (i : ℕ) → length s ≤ i �
 row_last f s i h = ap (map f) (drop_of_length-le s {i = i} h)
 
 -- as the code puts them
-pub start_is : (e : ℕ) → start_to e ≡ bound_of 0 e 0 (Some 0)
+pub start_is : (e : ℕ) → start_to e ≡ bound_of (record { from = 0; to = e; lo = 0; hi = Some 0 })
 unfolding start_to hi_kept
 start_is e = refl
 
-pub finish_is : (f e : ℕ) → finish_before f e ≡ bound_of (e - 1) f 0 None
+pub finish_is : (f e : ℕ) → finish_before f e ≡ bound_of (record { from = e - 1; to = f; lo = 0; hi = None })
 unfolding finish_before no_earlier hi_kept
 finish_is f e = refl
 
@@ -170,6 +170,16 @@ module _ (n : Numbers) where
         first_at carts (omega arith) ∙ ap (λ (n : ℕ). get_or (firsts_from 1 paths) n 0) (sym (paths_in_length carts n.paths.steps n.paths.cells.now)) ∙ finish_last paths 1
         ∙ omega (arith, events_are (plan_in n) even)
 
+    -- each event before it but the start ends one start or travel bound, so that all bounds are counted by it
+    pub bounds_by_finish : events_kept carts n.paths.steps n.paths.cells.now ≡ true → (m : ℕ) → m ≡ length (order_bounds (routes_of (of_paths paths)))
+        → (0 < get_or firsts carts 0) × (get_or firsts carts 0 - 1 + m + carts ≡ length (bounds (plan_in n)))
+    unfolding plan_in finish_event
+    bounds_by_finish kept m e =
+        let (few, _, _) = sizes kept in
+        let finish : get_or firsts carts 0 ≡ 1 + carts + 3 * total moves paths =
+        omega (arith, finish_at, events_are (plan_in n) even, all_events carts n.paths.steps n.paths.cells.now few.1 few.3) in
+        (omega (arith, finish), omega (arith, e, finish, bounds_count))
+
     -- it is small
     pub finish_small : events_kept carts n.paths.steps n.paths.cells.now ≡ true → get_or firsts carts 0 ≤ 4096
     unfolding plan_in finish_event
@@ -207,26 +217,19 @@ module _ (n : Numbers) where
         ∙ finishes_by f (carts_in carts n.speeds.now) paths 1 1 even
 
     -- the four sorts put one behind the other are the bounds of the plan
-    pub whole_put : (a b c d e : BoundArrays) (k j : ℕ) → k ≡ carts + 3 * total moves paths → j ≡ k + length (order_bounds (routes_of (of_paths paths)))
-        → Puts a b 0 (map start_to (take carts firsts))
-        → Puts b c carts (travel_bounds (roads_of n.roads) (routes 1 1 (carts_in carts n.speeds.now) paths))
-        → Puts c d k (order_bounds (routes_of (of_paths paths)))
-        → Puts d e j (map (finish_before (get_or firsts carts 0)) (take carts (drop 1 firsts)))
-        → Puts a e 0 (bounds (plan_in n))
+    pub whole_put : (a b c d e : BoundArrays) → Puts a b (map start_to (take carts firsts))
+        → Puts b c (travel_bounds (roads_of n.roads) (routes 1 1 (carts_in carts n.speeds.now) paths))
+        → Puts c d (order_bounds (routes_of (of_paths paths)))
+        → Puts d e (map (finish_before (get_or firsts carts 0)) (take carts (drop 1 firsts)))
+        → Puts a e (bounds (plan_in n))
     unfolding bounds plan_in routes_of
-    whole_put a b c d e k j hk hj one two three four =
+    whole_put a b c d e one two three four =
         let q : Plan = plan_in n in
-        let starts : List Bound = start_bounds (routes_of q) in
         let travel : List Bound = travel_bounds q.roads (routes_of q) in
         let orders : List Bound = order_bounds (routes_of q) in
         let finishes : List Bound = finish_bounds (finish_event q) (routes_of q) in
-        let same : length (order_bounds (routes_of (of_paths paths))) ≡ length orders = ap (λ (os : List Bound). length os) orders_are in
-        let a0 : carts ≡ 0 + length starts = omega (arith, start_count (routes_of q), route_count q.carts q.paths 1 1 even, paths_in_length carts n.paths.steps n.paths.cells.now) in
-        let a1 : k ≡ carts + length travel = omega (arith, hk, travels_count q.roads q.carts q.paths 1 1 even) in
-        let a2 : j ≡ k + length orders = omega (arith, hj, same) in
-        puts_more a b e 0 carts starts (travel ++ (orders ++ finishes)) (subst (Puts a b 0) starts_are one)
-        (puts_more b c e carts k travel (orders ++ finishes) two
-        (puts_more c d e k j orders finishes (subst (Puts c d k) orders_are three) (subst (Puts d e j) finishes_are four) a2) a1) a0
+        puts_more a b e (start_bounds (routes_of q)) (travel ++ (orders ++ finishes)) (subst (Puts a b) starts_are one)
+        (puts_more b c e travel (orders ++ finishes) two (puts_more c d e orders finishes (subst (Puts c d) orders_are three) (subst (Puts d e) finishes_are four)))
 
 -- ---- first events
 

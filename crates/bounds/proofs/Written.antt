@@ -71,7 +71,7 @@ unfolding bounding bounding_held
 unread s long x is HoldError.TooShort q a = absurd (never_short s long x is q)
 unread s long x is HoldError.NoPlan q a =
     let none : held s ≡ None = unlaid_none s (not_laid s long x is HoldError.NoPlan q) in
-    (sym (ap bounding none), record { written = []; puts = puts_none a 0 [] refl; are = λ g f. absurd (none-ne-some _ (sym none ∙ f)) })
+    (sym (ap bounding none), record { written = []; puts = puts_none a [] refl; are = λ g f. absurd (none-ne-some _ (sym none ∙ f)) })
 
 -- the plan in the arrays of a struct is that in the arrays
 pub lays_of : (s : List ℕ) (n : Numbers) (a : Arrays) (m : Holding) → numbers_of n ≡ a → size_of n ≡ m.size → Lays s a m → Lays s (numbers_of n) (holding_of n m.reports)
@@ -137,13 +137,13 @@ module _ (s : List ℕ) (n : Numbers) (reports : ℕ) (h : Lays s (numbers_of n)
   Wrote x a z = (x ≡ bounding_held (held s)) × Leaves (held s) a z
 
   -- none is held
-  none_held : (a z : BoundArrays) (bs : List Bound) → Puts a z 0 bs → held s ≡ None → Wrote None a z
+  none_held : (a z : BoundArrays) (bs : List Bound) → Puts a z bs → held s ≡ None → Wrote None a z
   unfolding bounding_held
   none_held a z bs p q =
       (sym (ap bounding_held q), record { written = bs; puts = p; are = λ g f. absurd (none-ne-some _ (sym q ∙ f)) })
 
   -- its own bounds are written first
-  module _ (x : Option Network) (a b : BoundArrays) (x-is : x ≡ network_answer (plan_fitting n)) (own-put : Puts a b 0 (network_bounds (plan_fitting n))) where
+  module _ (x : Option Network) (a b : BoundArrays) (x-is : x ≡ network_answer (plan_fitting n)) (own-put : Puts a b (network_bounds (plan_fitting n))) where
     -- they don't fit: the limits are passed
     pub own_unfit : x ≡ None → Wrote None a b
     unfolding network_answer
@@ -178,9 +178,9 @@ module _ (s : List ℕ) (n : Numbers) (reports : ℕ) (h : Lays s (numbers_of n)
       unfolding network_of
       events_are_told = ap (λ (y : Network). y.events) own_is
 
-      own_written : Puts a b 0 (bounds its)
+      own_written : Puts a b (bounds its)
       unfolding network_bounds
-      own_written = subst (λ (o : Option Plan). Puts a b 0 (network_bounds o)) fits own-put
+      own_written = subst (λ (o : Option Plan). Puts a b (network_bounds o)) fits own-put
 
       -- the limits are kept by their number
       kept_by : (t : Bool) → leb own.bounds 8192 ≡ t → limits_kept its ≡ t
@@ -238,12 +238,12 @@ module _ (s : List ℕ) (n : Numbers) (reports : ℕ) (h : Lays s (numbers_of n)
               ∙ sym (ap bounding_held is)
 
           -- what is left
-          both_left : (c : BoundArrays) → Puts b c own.bounds (added_bounds its b1) → Leaves (held s) a c
+          both_left : (c : BoundArrays) → Puts b c (added_bounds its b1) → Leaves (held s) a c
           unfolding all_bounds
           both_left c p =
               let is : held s ≡ Some (record { tables = tables_in s; log = log_in s; plan = its; book = b1 }) = is_held s its h.of_slice kept b1 k in record {
                 written = bounds its ++ added_bounds its b1;
-                puts = puts_more a b c 0 own.bounds (bounds its) (added_bounds its b1) own_written p (omega (arith, own_are));
+                puts = puts_more a b c (bounds its) (added_bounds its b1) own_written p;
                 are = λ g f. ap (λ (o : Held). all_bounds o.plan o.book) (some-injective _ _ (sym is ∙ f));
               }
 
@@ -261,12 +261,12 @@ module _ (s : List ℕ) (n : Numbers) (reports : ℕ) (h : Lays s (numbers_of n)
 
       -- what is answered and left
       pub rest_written : (z : Option Bounding) (c : BoundArrays) → z ≡ counted_all own (added_answer by_paths its_log)
-          → Puts b c own.bounds (rest_of own (added_of by_paths its_log)) → Wrote z a c
+          → Puts b c (rest_of own (added_of by_paths its_log)) → Wrote z a c
       unfolding counted_all rest_of added_answer
       rest_written z c z-is put = subst (λ (y : Option Bounding). Wrote y a c) (sym z-is) (by (leb own.bounds 8192) refl)
         where
-          all_put : Puts a c 0 (bounds its ++ rest_of own (added_of by_paths its_log))
-          all_put = puts_more a b c 0 own.bounds (bounds its) _ own_written put (omega (arith, own_are))
+          all_put : Puts a c (bounds its ++ rest_of own (added_of by_paths its_log))
+          all_put = puts_more a b c (bounds its) _ own_written put
 
           among : (few : leb own.bounds 8192 ≡ true) (o : Option Book) → its_book ≡ o → Wrote (counted_all own (added_answer by_paths its_log)) a c
           among few None k =
@@ -275,7 +275,7 @@ module _ (s : List ℕ) (n : Numbers) (reports : ℕ) (h : Lays s (numbers_of n)
               subst (λ (y : Option Bounding). Wrote y a c) (sym nothing) (none_held a c _ all_put (no_log s its h.of_slice (kept few) k))
           among few (Some b1) k = (
             both_told few b1 k,
-            both_left few b1 k c (subst (Puts b c own.bounds) (ap (λ (t : Bool). cond t (added_of by_paths its_log) []) few ∙ adds few b1 k) put),
+            both_left few b1 k c (subst (Puts b c) (ap (λ (t : Bool). cond t (added_of by_paths its_log) []) few ∙ adds few b1 k) put),
           )
 
           by : (t : Bool) → leb own.bounds 8192 ≡ t → Wrote (counted_all own (added_answer by_paths its_log)) a c

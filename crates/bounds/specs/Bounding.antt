@@ -6,7 +6,7 @@ use mathlib.Core.List.{List, flat_map}
 use Rattle.std.proofs.lemmas.List.Edits.{sets}
 use Rattle.network.specs.Events.{event_count}
 use Rattle.network.specs.Bounds.{Bound, bounds}
-use Rattle.network.specs.BoundArrays.{bound_ends, bound_range, Puts}
+use Rattle.network.specs.BoundArrays.{Puts}
 use Rattle.network.specs.declared.BoundArrays.{BoundArrays}
 use Rattle.schedule.specs.Added.{all_bounds}
 use Rattle.slice.specs.declared.HoldError.{HoldError}
@@ -44,17 +44,10 @@ unfoldable pub bounding_left : (Bound → List ℕ) → Bool → Option Held →
 bounding_left numbers false h e = e
 bounding_left numbers true h e = bounds_left numbers h e
 
--- in both, which stay the same ones
-pub record BoundsLeft (fits : Bool) (o : Option Held) (a b : BoundArrays) : Type 0 where
-  pub same_ends : b.ends.ghost_name ≡ a.ends.ghost_name
-  pub same_ranges : b.ranges.ghost_name ≡ a.ranges.ghost_name
-  pub ends : b.ends.now ≡ bounding_left bound_ends fits o a.ends.now
-  pub ranges : b.ranges.now ≡ bounding_left bound_range fits o a.ranges.now
-
 -- what is written before it is known whether a plan is held: its bounds, where one is, and else any
 pub record Leaves (o : Option Held) (a b : BoundArrays) : Type 0 where
   pub written : List Bound
-  pub puts : Puts a b 0 written
+  pub puts : Puts a b written
   pub are : (h : Held) → o ≡ Some h → written ≡ all_bounds h.plan h.book
 
 -- Names every definition of this module, for a proof that computes with them all.

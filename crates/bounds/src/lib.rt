@@ -9,19 +9,20 @@ mod travel;
 ghost use Rattle.std.specs.Prelude.{◌≡◌, true, ℕ, ◌+◌, ◌≤◌, ◌<◌, length, take, get_or};
 ghost use mathlib.Core.List.{map};
 ghost use Rattle.network.specs.Bounds.{bounds};
-ghost use Rattle.network.specs.BoundArrays.{Puts};
+ghost use Rattle.network.specs.BoundArrays.{bound_ends, bound_range, Puts};
 ghost use Rattle.limits.specs.OfPaths.{plan_of, keep_events};
 ghost use Rattle.limits.specs.Orders.{first_events};
-ghost use Rattle.book.specs.Log.{added_of, added_answer};
+ghost use Rattle.book.specs.Log.{book_of, added_of, added_answer};
 ghost use Rattle.slice.specs.PlanSlice.{held};
-ghost use Rattle.slice.specs.HeldPlan.{log_of, Lays};
+ghost use Rattle.slice.specs.HeldPlan.{Lays};
 ghost use Rattle.bounds.specs.Writing.{start_to, finish_before};
 ghost use Rattle.bounds.specs.Network.{plan_in, plan_fitting, network_answer, network_bounds, numbers_of, holding_of};
 ghost use Rattle.bounds.specs.Counted.{counted_all, rest_of};
-ghost use Rattle.bounds.specs.Bounding.{bounding_fits, bounding, bounding_held, bounding_answer, Leaves, BoundsLeft};
+ghost use Rattle.bounds.specs.Bounding.{bounding_fits, bounding, bounding_held, bounding_answer, bounding_left, Leaves};
 
+use book::Log;
 use collisions::Paths;
-use network::BoundArrays;
+use network::{Bound, BoundArrays};
 use numbers::Numbers;
 use slice::{HoldError, PlanSlice};
 use tables::{PlanArrays, RoadIndex};
@@ -41,50 +42,57 @@ pub struct Bounding {
     pub all: usize,
 }
 
-// Puts the start bounds in the front of two arrays, to the carts' first events.
+// Puts the start bounds, to the carts' first events.
 fn write_starts(firsts: &[u16], out: &mut BoundArrays)
-    requires { length firsts.now ≤ 64 }
-    ensures { Puts out.old out.new 0 (map start_to firsts.now) }
+    ensures { Puts out.old out.new (map start_to firsts.now) }
 {
-    for (i, first) in firsts.iter().enumerate() {
-        out.put(i, 0, *first, 0, Some(0));
+    for first in firsts {
+        out.put(Bound {
+            from: 0,
+            to: *first,
+            lo: 0,
+            hi: Some(0),
+        });
     }
 }
 
-// Puts the finish bounds in two arrays, from the k-th place on, behind at most 4,096 others and 90,112 order bounds. A cart's last event stands before
-// the next cart's first, or the finish.
-fn write_finishes(nexts: &[u16], finish: u16, k: usize, out: &mut BoundArrays)
-    requires few { (length nexts.now ≤ 64) × (k ≤ 94208) }
-    requires positive { (i : ℕ) → i < length nexts.now → 0 < get_or nexts.now i 0 }
-    ensures { Puts out.old out.new k (map (finish_before finish) nexts.now) }
+// Puts the finish bounds. A cart's last event stands before the next cart's first, or the finish.
+fn write_finishes(nexts: &[u16], finish: u16, out: &mut BoundArrays)
+    requires { (i : ℕ) → i < length nexts.now → 0 < get_or nexts.now i 0 }
+    ensures { Puts out.old out.new (map (finish_before finish) nexts.now) }
 {
-    for (i, next) in nexts.iter().enumerate() {
-        out.put(k + i, *next - 1, finish, 0, None);
+    for next in nexts {
+        out.put(Bound {
+            from: *next - 1,
+            to: finish,
+            lo: 0,
+            hi: None,
+        });
     }
 }
 
-// Writes all bounds to the front of two arrays, as many as there is room for, by the numbers of the carts' first events and of the finish; returns how many there are.
+// Puts all bounds of a plan, by the numbers of the carts' first events and of the finish; returns how many there are. Each event but the start and the finish
+// ends one start or travel bound, and each cart has a finish bound.
 fn write_all(plan: &Numbers, firsts: &[u16], out: &mut BoundArrays) -> usize
     requires kept { keep_events plan.now.paths ≡ true }
     requires firsts_value { take (plan.now.paths.carts + 1) firsts.now ≡ first_events (plan_of plan.now.paths) }
     ensures value { result ≡ length (bounds (plan_in plan.now)) }
-    ensures left { Puts out.old out.new 0 (bounds (plan_in plan.now)) }
+    ensures left { Puts out.old out.new (bounds (plan_in plan.now)) }
 {
     let carts = plan.paths.carts;
-    let starts = &firsts[..carts];
-    let nexts = &firsts[1..carts + 1];
-    write_starts(starts, out);
-    let k = travel::travel_of_all(plan, carts, out);
-    let j = k + limits::order_bounds(plan.paths, out, k);
-    write_finishes(nexts, firsts[carts], j, out);
-    j + carts
+    let finish = firsts[carts];
+    write_starts(&firsts[..carts], out);
+    travel::travel_of_all(plan, out);
+    let orders = limits::order_bounds(plan.paths, out);
+    write_finishes(&firsts[1..carts + 1], finish, out);
+    usize::from(finish - 1) + orders + carts
 }
 
 // Writes the bounds of a plan to the front of two arrays, as many as there is room for: start, travel, order and finish bounds. Where there are too many
 // events it writes none.
 fn write_bounds(plan: &Numbers, out: &mut BoundArrays) -> Option<Network>
     ensures answer { result ≡ network_answer (plan_fitting plan.now) }
-    ensures left { Puts out.old out.new 0 (network_bounds (plan_fitting plan.now)) }
+    ensures left { Puts out.old out.new (network_bounds (plan_fitting plan.now)) }
 {
     let mut firsts = [0u16; 65];
     let carts = plan.paths.carts;
@@ -98,23 +106,16 @@ fn write_bounds(plan: &Numbers, out: &mut BoundArrays) -> Option<Network>
     })
 }
 
-// Writes the bounds of a slice's log behind a plan's own, and counts them all. There is no plan where its own are too many or the log gives no book.
-fn write_rest(
-    plan: &[u8],
-    reports: usize,
-    paths: Paths,
-    own: Network,
-    out: &mut BoundArrays,
-) -> Option<Bounding>
-    requires { own.bounds ≤ 8192 → own.bounds + length (added_of (plan_of paths) (log_of plan.now reports paths)) ≤ 12288 }
-    ensures answer { result ≡ counted_all own (added_answer (plan_of paths.entry) (log_of plan.now reports paths.entry)) }
-    ensures left { Puts out.old out.new own.bounds (rest_of own (added_of (plan_of paths.entry) (log_of plan.now reports paths.entry))) }
+// Writes the bounds that a log adds behind a plan's own, and counts them all. There is no plan where its own are too many or the log gives no book.
+fn write_rest(paths: Paths, log: Log, own: Network, out: &mut BoundArrays) -> Option<Bounding>
+    requires { own.bounds ≤ 8192 → own.bounds + length (added_of (plan_of paths) (book_of paths log)) ≤ 12288 }
+    ensures answer { result ≡ counted_all own (added_answer (plan_of paths.entry) (book_of paths.entry log.entry)) }
+    ensures left { Puts out.old out.new (rest_of own (added_of (plan_of paths.entry) (book_of paths.entry log.entry))) }
 {
     if 8192 < own.bounds {
         return None;
     }
-    let log = slice::log(plan, reports);
-    let more = book::write_added(paths, log, out, own.bounds)?;
+    let more = book::write_added(paths, log, out)?;
     Some(Bounding {
         events: own.events,
         own: own.bounds,
@@ -135,7 +136,7 @@ fn write_both(
     ensures left { Leaves (held plan.now) out.old out.new }
 {
     let own = write_bounds(numbers, out)?;
-    write_rest(plan, reports, numbers.paths, own, out)
+    write_rest(numbers.paths, slice::log(plan, reports), own, out)
 }
 
 // The same for the plan that the tables of a slice give; the index of its roads is handed on where arrays with room for it are lent.
@@ -178,7 +179,7 @@ fn write_with<const N: usize>(plan: PlanSlice, out: &mut BoundArrays) -> Result<
     write_read(plan, &mut index, out)
 }
 
-// One of the two: without an index where there is room for 128 bounds at most and the table of roads has at most 192 bytes.
+// One of the two, since a const parameter is a constant: without an index where there is room for 128 bounds at most and the table of roads has at most 192 bytes.
 fn write_laid(plan: PlanSlice, out: &mut BoundArrays) -> Result<Bounding, HoldError>
     ensures answer { result ≡ bounding (held plan.entry.bytes.now) }
     ensures left { Leaves (held plan.entry.bytes.now) out.old out.new }
@@ -191,15 +192,21 @@ fn write_laid(plan: PlanSlice, out: &mut BoundArrays) -> Result<Bounding, HoldEr
 
 // Writes the bounds of the plan that a slice holds, and those that its log adds, to the front of two arrays, as many as there is room for. Where none is
 // held the arrays are cleared, since bounds may have been written before that was known.
-pub fn write_held(plan: &[u8], out: &mut BoundArrays) -> Result<Bounding, HoldError>
+pub fn write_held(plan: &[u8], ends: &mut [u16], ranges: &mut [u64]) -> Result<Bounding, HoldError>
     ensures answer { result ≡ bounding_answer (bounding_fits plan.now) (held plan.now) }
-    ensures left { BoundsLeft (bounding_fits plan.now) (held plan.now) out.old out.new }
+    ensures left { ends.new ≡ bounding_left bound_ends (bounding_fits plan.now) (held plan.now) ends.old }
+    ensures left_ranges { ranges.new ≡ bounding_left bound_range (bounding_fits plan.now) (held plan.now) ranges.old }
 {
     let plan = PlanSlice::new(plan).ok_or(HoldError::TooShort)?;
-    let x = write_laid(plan, out);
+    let mut out = BoundArrays {
+        ends,
+        ranges,
+        place: 0,
+    };
+    let x = write_laid(plan, &mut out);
     if x.is_err() {
-        out.ends.fill(0);
-        out.ranges.fill(0);
+        ends.fill(0);
+        ranges.fill(0);
     }
     x
 }

@@ -5,7 +5,8 @@ ghost use Rattle.bounds.specs.Links.{RoadsLinked};
 use collisions::Paths;
 use tables::{PlanArrays, RoadIndex, Size};
 
-// Roads, four numbers each. Where as many heads are lent as there are remainders of their cells, they are linked by these.
+// Roads, four numbers each: the other arrays' places stand beside a place worked out as `4 * i`, so that `chunks` would be no plainer. Where as many heads are
+// lent as there are remainders of their cells, they are linked by these.
 #[derive(Clone, Copy)]
 pub(crate) struct Roads<'a> {
     pub(crate) edges: &'a [u32],
@@ -16,7 +17,7 @@ pub(crate) struct Roads<'a> {
     ghost linked: { RoadsLinked count edges.now heads.now nexts.now },
 }
 
-// A cart's speeds, of which the slowest may be none.
+// A cart's speeds, of which the slowest may be none. floor's `Cart` is another type, since it is of a table, before anything is known of its numbers.
 #[derive(Clone, Copy)]
 pub(crate) struct Speeds {
     pub(crate) fastest: u32,

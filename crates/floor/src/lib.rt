@@ -41,7 +41,7 @@ pub enum Table {
     Paths,
 }
 
-// A refusal: its reason, the table, and the record counted from 1 without the first line, 0 if none.
+// A refusal: its reason, the table, and the record counted from 1 without the first line, 0 if none: that is document 01's own number.
 #[derive(Clone, Copy, Debug, PartialEq, Eq)]
 pub struct Refusal {
     pub reason: Reason,

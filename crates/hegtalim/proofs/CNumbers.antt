@@ -1,18 +1,16 @@
 -- What a load and a report answer fits into the one number that a C function returns. Assumes nothing.
 use Rattle.std.specs.Prelude.{Err, Ok}
-use Prim.Native.Nat.{ℕ, ◌+◌, ◌*◌, ◌≤◌, ◌<◌}
+use Prim.Native.Nat.{ℕ, ◌≤◌, ◌<◌}
 use native.Mathlib.Omega.{arith}
-use mathlib.Core.Path.{◌≡◌, refl, ap, sym, ◌∙◌, subst}
+use mathlib.Core.Path.{◌≡◌, refl, sym, subst}
 use mathlib.Core.Bool.{Bool, true, false}
 use mathlib.Core.List.{List}
 use lib.Dec.{leb}
 use lib.ListN.{length}
-use mir.Syntax.{w64}
-use mir.Val.{Fits}
 use Rattle.floor.specs.declared.Reason.TheVariants.{Limit}
 use Rattle.floor.specs.declared.Table.TheVariants.{Paths}
 use Rattle.floor.specs.declared.Refusal.{Refusal}
-use Rattle.floor.specs.Refusal.{reason_number, table_number, Judged}
+use Rattle.floor.specs.Refusal.{Judged}
 use Rattle.floor.specs.Plan.{Plan}
 use Rattle.floor.specs.Tables.{Tables, read_tables}
 use Rattle.tables.proofs.RefusalRows.{reason_small, table_small, refused_up_to, bind_up_to, need_up_to, tables_up_to}

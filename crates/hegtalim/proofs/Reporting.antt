@@ -6,7 +6,7 @@ use mathlib.Core.Path.{◌≡◌, refl, ap, ap₂, sym, ◌∙◌}
 use mathlib.Core.Bool.{Bool, true, false, ◌&&◌, cond}
 use mathlib.Core.List.Memᴰ
 use mathlib.Core.List.{List, [], ◌∷◌, ◌++◌}
-use lib.ListN.{length, take, drop, replicate}
+use lib.ListN.{length, take, drop}
 use borrow.Author.Tests.{lt-leb}
 use Rattle.schedule.specs.Book.{Report, ◌at◌, first_book, has_next, in_time, acceptable, pass_next, replay}
 use Rattle.schedule.proofs.Log.{replay_snoc, log_carts_times}
@@ -27,7 +27,6 @@ use Rattle.slice.proofs.LaidPlan.{blank}
 use Rattle.slice.proofs.HeldPlan.{sound, checked_there, no_plan, held_there, short_slice, long_slice}
 use Rattle.hegtalim.specs.declared.ReportError.{ReportError}
 use Rattle.hegtalim.specs.Answers.{Reported}
-use Rattle.hegtalim.specs.Answers.{plain, reported_answer, c_number}
 use Rattle.hegtalim.specs.Errors.{not_held, not_taken}
 use Rattle.hegtalim.specs.Outcomes.{Reporting, book_answer, report_held, report}
 use Rattle.hegtalim.proofs.Calls.{report_on}

@@ -13,7 +13,6 @@ use mir.Facts.{and_yes}
 use borrow.Author.Tests.{le-leb, lt-leb}
 use Rattle.laws.proofs.Tests.{passes}
 use Rattle.network.specs.BoundArrays.{bound_ends, bound_range}
-use Rattle.network.specs.declared.BoundArrays.{BoundArrays}
 use Rattle.schedule.specs.Added.{all_bounds}
 use Rattle.schedule.specs.Lent.{Lent, long_enough}
 use Rattle.slice.specs.declared.HoldError.{HoldError}
@@ -21,7 +20,7 @@ use Rattle.slice.specs.PlanSlice.{plan_need, Held, held}
 use Rattle.passes.specs.declared.Solved.{Solved}
 use Rattle.passes.specs.Solving.{Solving}
 use Rattle.bounds.specs.declared.Bounding.{Bounding}
-use Rattle.bounds.specs.Bounding.{bounding_fits, bounding_of, bounding_held, bounding, bounding_answer, bounds_left, bounding_left, BoundsLeft}
+use Rattle.bounds.specs.Bounding.{bounding_fits, bounding_of, bounding_held, bounding, bounding_answer, bounds_left, bounding_left}
 use Rattle.hegtalim.specs.Errors.{not_timed}
 use Rattle.hegtalim.specs.declared.TimeError.{TimeError}
 use Rattle.hegtalim.specs.Answers.{Timed}
@@ -69,14 +68,15 @@ module _ (s : List ℕ) (l : Lent) (met : meets_needs s l ≡ true) (x : Result 
       by (Some h) e why z = absurd (cc)
 
   -- a plan, and its bounds in two arrays
-  module _ (a b : BoundArrays) (left : BoundsLeft (bounding_fits s) (held s) a b) (n : Bounding) (q : x ≡ Ok n) where
+  module _ (before before_r ends ranges : List ℕ) (left : ends ≡ bounding_left bound_ends (bounding_fits s) (held s) before)
+      (left_r : ranges ≡ bounding_left bound_range (bounding_fits s) (held s) before_r) (n : Bounding) (q : x ≡ Ok n) where
     -- what is known of it
     record There : Type 0 where
       plan_held : Held
       of_slice : held s ≡ Some plan_held
       counts : n ≡ bounding_of plan_held
-      ends_there : b.ends.now ≡ sets a.ends.now 0 (flat_map bound_ends (all_bounds plan_held.plan plan_held.book))
-      ranges_there : b.ranges.now ≡ sets a.ranges.now 0 (flat_map bound_range (all_bounds plan_held.plan plan_held.book))
+      ends_there : ends ≡ sets before 0 (flat_map bound_ends (all_bounds plan_held.plan plan_held.book))
+      ranges_there : ranges ≡ sets before_r 0 (flat_map bound_range (all_bounds plan_held.plan plan_held.book))
 
     there : There
     unfolding bounding bounding_held bounds_left bounding_left
@@ -89,19 +89,18 @@ module _ (s : List ℕ) (l : Lent) (met : meets_needs s l ≡ true) (x : Result 
               plan_held = h;
               of_slice = e;
               counts = cc;
-              ends_there = left.ends ∙ ap (λ (t : Bool). bounding_left bound_ends t (held s) a.ends.now) fits ∙ ap (λ (o : Option Held). bounds_left bound_ends o a.ends.now) e;
-              ranges_there = left.ranges ∙ ap (λ (t : Bool). bounding_left bound_range t (held s) a.ranges.now) fits ∙ ap (λ (o : Option Held). bounds_left bound_range o a.ranges.now) e;
+              ends_there = left ∙ ap (λ (t : Bool). bounding_left bound_ends t (held s) before) fits ∙ ap (λ (o : Option Held). bounds_left bound_ends o before) e;
+              ranges_there = left_r ∙ ap (λ (t : Bool). bounding_left bound_range t (held s) before_r) fits ∙ ap (λ (o : Option Held). bounds_left bound_range o before_r) e;
             }
 
     -- what is found, and said of it
-    pub found : (ends ranges : List ℕ) → ends ≡ b.ends.now → ranges ≡ b.ranges.now
-        → (f : Option Solved) (l' : Lent) → Solving n.own n.all n.events ends ranges l f l' → (y : Timed) → told f ≡ y → Worked (length a.ends.now) (length a.ranges.now) s l y l'
+    pub found : (f : Option Solved) (l' : Lent) → Solving n.own n.all n.events ends ranges l f l' → (y : Timed) → told f ≡ y → Worked (length before) (length before_r) s l y l'
     unfolding bounding_of
-    found ends ranges ee er f l' w y e =
+    found f l' w y e =
         let t : There = there in
-        subst (λ (z : Timed). Worked (length a.ends.now) (length a.ranges.now) s l z l') e
+        subst (λ (z : Timed). Worked (length before) (length before_r) s l z l') e
         (solving_is s t.plan_held t.of_slice l met n.events n.own n.all (ap (λ (i : Bounding). i.events) t.counts) (ap (λ (i : Bounding). i.own) t.counts) (ap (λ (i : Bounding). i.all) t.counts)
-        a.ends.now a.ranges.now ends ranges (ee ∙ t.ends_there) (er ∙ t.ranges_there) f l' w)
+        before before_r ends ranges t.ends_there t.ranges_there f l' w)
 
 -- ---- small arrays and large ones
 
@@ -134,9 +133,6 @@ module _ (e r : ℕ) (s : List ℕ) (l : Lent) where
   short_kept x l' (done y k (timed a b c t d)) q = absurd (cc)
   short_kept x l' (done y k (no_times a b c d is f)) q = absurd (cc)
 
-  -- so they are still long enough, and what comes then is the outcome
-  pub still_long : (x : Timed) (l' : Lent) → Worked e r s l x l' → x ≡ Err TimeError.TooShort → long_enough l ≡ true → long_enough l' ≡ true
-  still_long x l' w q h = ap long_enough (short_kept x l' w q) ∙ h
-
+  -- so what comes then is the outcome
   pub then_large : (x : Timed) (l' : Lent) → Worked e r s l x l' → x ≡ Err TimeError.TooShort → (y : Timed) (k : Lent) → Timetabled s l' y k → Timetabled s l y k
   then_large x l' w q y k t = subst (λ (m : Lent). Timetabled s m y k) (short_kept x l' w q) t

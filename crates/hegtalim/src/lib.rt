@@ -14,6 +14,7 @@ ghost use Rattle.tables.specs.Reading.{read_answer};
 ghost use Rattle.network.specs.Judge.{judge};
 ghost use Rattle.hegtalim.specs.Errors.{not_held, not_taken, not_timed};
 ghost use Rattle.hegtalim.specs.Answers.{loaded_answer, reported_answer, timed_answer, c_number};
+ghost use Rattle.slice.specs.declared.TheConstants.{PLAN_BYTES, TABLE_BYTES};
 ghost use Rattle.slice.specs.PlanSlice.{plan_slice};
 ghost use Rattle.slice.specs.HeldPlan.{log_of};
 ghost use Rattle.schedule.specs.Book.{◌at◌};
@@ -27,9 +28,8 @@ ghost use Rattle.passes.specs.Lending.{lent_of, SameSlices};
 pub use answer::Answer;
 use book::ReportError as BookError;
 use floor::{Reason, Table};
-use network::BoundArrays;
 use passes::{BoundSlices, Lent, Solved};
-use slice::HoldError;
+use slice::{CARTS_AT, HoldError, PATHS_AT, PLAN_BYTES, PlanSlice};
 use tables::{PlanArrays, Size, Tables};
 
 // Why a load is turned down: as the reader of the tables says it. specs/Answers.antt gives each answer its number and values.
@@ -90,8 +90,8 @@ impl From<HoldError> for TimeError {
 
 // Writes the tables into a slice of zeros, each to its place.
 fn store_tables(tables: Tables, plan: &mut [u8])
-    requires roads_len_bound { (length tables.roads.now ≤ 65536) × (length tables.carts.now ≤ 65536) × (length tables.paths.now ≤ 65536) }
-    requires in_bounds { (233472 ≤ length plan.old) × (plan.old ≡ replicate (length plan.old) 0) }
+    requires roads_len_bound { (length tables.roads.now ≤ TABLE_BYTES) × (length tables.carts.now ≤ TABLE_BYTES) × (length tables.paths.now ≤ TABLE_BYTES) }
+    requires in_bounds { (PLAN_BYTES ≤ length plan.old) × (plan.old ≡ replicate (length plan.old) 0) }
     ensures { plan.new ≡ plan_slice (length plan.old) (tables_of tables.entry) [] }
 {
     let Tables {
@@ -100,8 +100,8 @@ fn store_tables(tables: Tables, plan: &mut [u8])
         paths,
     } = tables;
     plan[..roads.len()].copy_from_slice(roads);
-    plan[65_536..65_536 + carts.len()].copy_from_slice(carts);
-    plan[131_072..131_072 + paths.len()].copy_from_slice(paths);
+    plan[CARTS_AT..CARTS_AT + carts.len()].copy_from_slice(carts);
+    plan[PATHS_AT..PATHS_AT + paths.len()].copy_from_slice(paths);
 }
 
 // Reads the tables and leaves the cells of the paths. The other arrays go with this call, so that no more memory is held than is needed.
@@ -137,7 +137,7 @@ pub fn load(tables: Tables, plan: &mut [u8]) -> Result<(), LoadError>
     ensures answer { result ≡ (load (tables_of tables.entry) plan.old).answer }
     ensures left { plan.new ≡ (load (tables_of tables.entry) plan.old).plan }
 {
-    if plan.len() < 233_472 {
+    if plan.len() < PLAN_BYTES {
         return Err(LoadError::TooShort);
     }
     plan.fill(0);
@@ -166,19 +166,20 @@ pub fn report(plan: &mut [u8], cart: u64, time: u64) -> Result<(), ReportError>
     Ok(())
 }
 
-// The times of the plan that a slice holds, or a chain, worked out in two arrays: `TooShort` where they have no room for its bounds.
+// The times of the plan that a slice holds, or a chain, worked out in two arrays: `TooShort` where they have no room for its bounds, or the slices lent are short.
 fn time_in(
-    plan: &[u8],
+    plan: PlanSlice,
     ends: &mut [u16],
     ranges: &mut [u64],
     lent: &mut Lent,
 ) -> Result<usize, TimeError>
-    requires { (233472 ≤ length plan.now) × (long_enough (lent_of lent.old) ≡ true) }
-    ensures worked { Worked (length ends.old) (length ranges.old) plan.now (lent_of lent.old) result (lent_of lent.new) }
+    ensures worked { Worked (length ends.old) (length ranges.old) plan.entry.bytes.now (lent_of lent.old) result (lent_of lent.new) }
     ensures same { SameSlices lent.old lent.new }
 {
-    let mut out = BoundArrays { ends, ranges };
-    let n = bounds::write_held(plan, &mut out)?;
+    if !lent.is_long_enough() {
+        return Err(TimeError::TooShort);
+    }
+    let n = bounds::write_held(plan.bytes, ends, ranges)?;
     let given = BoundSlices {
         ends,
         ranges,
@@ -194,10 +195,9 @@ fn time_in(
 }
 
 // The same in arrays of N numbers each: the shorter they are, the less time they take to clear.
-fn time_with<const N: usize>(plan: &[u8], lent: &mut Lent) -> Result<usize, TimeError>
-    requires room { N ≤ 24576 }
-    requires long { (233472 ≤ length plan.now) × (long_enough (lent_of lent.old) ≡ true) }
-    ensures worked { Worked N N plan.now (lent_of lent.old) result (lent_of lent.new) }
+fn time_with<const N: usize>(plan: PlanSlice, lent: &mut Lent) -> Result<usize, TimeError>
+    requires { N ≤ 24576 }
+    ensures worked { Worked N N plan.entry.bytes.now (lent_of lent.old) result (lent_of lent.new) }
     ensures same { SameSlices lent.old lent.new }
 {
     let mut ends = [0u16; N];
@@ -206,12 +206,12 @@ fn time_with<const N: usize>(plan: &[u8], lent: &mut Lent) -> Result<usize, Time
 }
 
 // How many commas there are among 64 bytes of a slice, from a place on. They are counted in a byte and to the end, so that the compiler looks at many at once.
-fn commas_from(plan: &[u8], from: usize) -> u8
-    requires { from + 64 ≤ length plan.now }
+fn commas_from(plan: PlanSlice, from: usize) -> u8
+    requires { from + 64 ≤ PLAN_BYTES }
 {
     let mut n: u8 = 0;
-    for i in 0..64 {
-        if plan[from + i] == b',' {
+    for b in &plan.bytes[from..from + 64] {
+        if *b == b',' {
             n += 1;
         }
     }
@@ -219,28 +219,23 @@ fn commas_from(plan: &[u8], from: usize) -> u8
 }
 
 // How many there are in the first blocks, of 64 bytes each, of the table of paths in a slice.
-fn commas(plan: &[u8], blocks: usize) -> u32
-    requires { (blocks ≤ 64) × (233472 ≤ length plan.now) }
+fn commas(plan: PlanSlice, blocks: usize) -> u32
+    requires { blocks ≤ 64 }
 {
     let mut n: u32 = 0;
     for i in 0..blocks {
-        n += u32::from(commas_from(plan, 131_072 + 64 * i));
+        n += u32::from(commas_from(plan, PATHS_AT + 64 * i));
     }
     n
 }
 
 // How many there are in a table of paths of at most 4,096 bytes, behind which stand zeros: few blocks are looked at where the table is short. No plan has
 // more moves than that.
-fn most_moves(plan: &[u8]) -> u32
-    requires { 233472 ≤ length plan.now }
-{
-    let mut blocks: usize = 1;
-    // a `while`: twice as many each time, and an iterator that says so is no plainer
-    while blocks < 64 {
-        if plan[131_072 + 64 * blocks] == 0 {
+fn most_moves(plan: PlanSlice) -> u32 {
+    for blocks in [1usize, 2, 4, 8, 16, 32] {
+        if plan.bytes[PATHS_AT + 64 * blocks] == 0 {
             return commas(plan, blocks);
         }
-        blocks = 2 * blocks;
     }
     commas(plan, 64)
 }
@@ -257,10 +252,8 @@ enum Room {
 
 // In which arrays a plan is tried first, by how many moves it can have. A move takes six bounds, three of them added, and more than two order bounds besides
 // have room there. Where there are at most 14 commas all bounds have room. Many moves are not tried.
-fn first_room(plan: &[u8]) -> Room
-    requires { 233472 ≤ length plan.now }
-{
-    if plan[135_168] != 0 {
+fn first_room(plan: PlanSlice) -> Room {
+    if plan.bytes[PATHS_AT + 4096] != 0 {
         return Room::Any;
     }
     match most_moves(plan) {
@@ -274,9 +267,8 @@ fn first_room(plan: &[u8]) -> Room
 
 // The times of the plan that a slice holds, or a chain, in these arrays. What has no room in shorter ones is done again in those for any plan. The function
 // calls itself: otherwise the compiler would put the arrays of all sizes into one frame, and a small plan too would touch each of its pages.
-fn time_from(plan: &[u8], room: Room, lent: &mut Lent) -> Result<usize, TimeError>
-    requires { (233472 ≤ length plan.now) × (long_enough (lent_of lent.old) ≡ true) }
-    ensures timed { Timetabled plan.now (lent_of lent.old) result (lent_of lent.new) }
+fn time_from(plan: PlanSlice, room: Room, lent: &mut Lent) -> Result<usize, TimeError>
+    ensures timed { Timetabled plan.entry.bytes.now (lent_of lent.old) result (lent_of lent.new) }
     ensures same { SameSlices lent.old lent.new }
 {
     let x = match room {
@@ -297,9 +289,7 @@ pub fn timetable(plan: &[u8], lent: &mut Lent) -> Result<usize, TimeError>
     ensures timed { Timetabled plan.now (lent_of lent.old) result (lent_of lent.new) }
     ensures same { SameSlices lent.old lent.new }
 {
-    if plan.len() < 233_472 || !lent.is_long_enough() {
-        return Err(TimeError::TooShort);
-    }
+    let plan = PlanSlice::new(plan).ok_or(TimeError::TooShort)?;
     time_from(plan, first_room(plan), lent)
 }
 

@@ -1,6 +1,6 @@
 -- Order bounds put in arrays. Assumes nothing.
 use Rattle.std.specs.Prelude.{None}
-use Prim.Native.Nat.{ℕ, ◌+◌, ◌*◌, ◌-◌, ◌≤◌, ◌<◌, min, max}
+use Prim.Native.Nat.{ℕ, ◌+◌, ◌*◌, ◌≤◌, ◌<◌}
 use native.Mathlib.Nat.{mul-le-mul_right}
 use native.Mathlib.Omega.{arith}
 use mathlib.Core.Path.{◌≡◌, refl, ap, sym, ◌∙◌, subst}
@@ -14,7 +14,7 @@ use Rattle.network.specs.Events.{routes_of}
 use Rattle.network.specs.Bounds.{Bound, no_earlier, order_bounds}
 use Rattle.network.specs.declared.BoundArrays.{BoundArrays}
 use Rattle.network.specs.BoundArrays.{hi_kept, bound_of, Puts}
-use Rattle.network.proofs.Putting.{puts_none, puts_placed}
+use Rattle.network.proofs.Putting.{puts_none}
 use Rattle.limits.specs.Limits.{of_paths}
 use Rattle.limits.specs.Orders.{events_kept, orders_fitting}
 use Rattle.limits.specs.Counts.{total, moves}
@@ -23,7 +23,7 @@ use Rattle.limits.proofs.LimitSteps.{path_orders}
 use Rattle.limits.proofs.Few.{orders_few}
 
 -- an order bound as it is put
-pub bound_put : (u v u' v' : ℕ) → u' ≡ u → v' ≡ v → bound_of u' v' 0 None ∷ [] ≡ no_earlier u v ∷ []
+pub bound_put : (u v u' v' : ℕ) → u' ≡ u → v' ≡ v → bound_of (record { from = u'; to = v'; lo = 0; hi = None }) ∷ [] ≡ no_earlier u v ∷ []
 unfolding hi_kept no_earlier
 bound_put u v u' v' e f = ap (λ (x : ℕ). no_earlier x v' ∷ []) e ∙ ap (λ (x : ℕ). no_earlier u x ∷ []) f
 
@@ -55,14 +55,14 @@ module _ (n w : ℕ) (s : List ℕ) where
 
 -- ---- what is answered and left
 
-module _ (n w : ℕ) (s : List ℕ) (out : BoundArrays) (k : ℕ) where
+module _ (n w : ℕ) (s : List ℕ) (out : BoundArrays) where
   -- this is to be answered and left
   abbrev Left : ℕ → BoundArrays → Type 0
-  Left m out' = record { answer : m ≡ length (orders_fitting n w s); left : Puts out out' k (orders_fitting n w s) }
+  Left m out' = record { answer : m ≡ length (orders_fitting n w s); left : Puts out out' (orders_fitting n w s) }
 
   -- where there are none to put
   none_fit : orders_fitting n w s ≡ [] → Left 0 out
-  none_fit e = record { answer = ap (λ (l : List Bound). length l) (sym e); left = puts_none out k (orders_fitting n w s) e }
+  none_fit e = record { answer = ap (λ (l : List Bound). length l) (sym e); left = puts_none out (orders_fitting n w s) e }
 
   -- a cart alone
   pub orders_alone : n < 2 → Left 0 out
@@ -78,13 +78,7 @@ module _ (n w : ℕ) (s : List ℕ) (out : BoundArrays) (k : ℕ) where
   unfolding orders_fitting
   orders_over e = none_fit (ap (λ (b : Bool). cond b (os n w s) []) e)
 
-  -- else they are put, from a place that is the k-th or behind both arrays
-  pub orders_fit : events_kept n w s ≡ true → (j m : ℕ) (out' : BoundArrays) → j ≡ min k (max (length out.ends.now) (length out.ranges.now))
-      → m ≡ j + length (os n w s) → Puts out out' j (os n w s) → Left (m - j) out'
+  -- else they are put
+  pub orders_fit : events_kept n w s ≡ true → (m : ℕ) (out' : BoundArrays) → m ≡ length (os n w s) → Puts out out' (os n w s) → Left m out'
   unfolding orders_fitting
-  orders_fit e j m out' ej em p =
-      let all : os n w s ≡ orders_fitting n w s = ap (λ (b : Bool). cond b (os n w s) []) (sym e) in
-      record {
-        answer = omega (arith, em, ap (λ (l : List Bound). length l) all);
-        left = subst (Puts out out' k) all (puts_placed out out' k j (os n w s) ej p);
-      }
+  orders_fit e m out' q p = subst (λ (l : List Bound). record { answer : m ≡ length l; left : Puts out out' l }) (ap (λ (b : Bool). cond b (os n w s) []) (sym e)) (record { answer = q; left = p })

@@ -2,7 +2,6 @@
 use Rattle.std.proofs.lemmas.Bool.Decides.{nat_tests}
 use Prim.Native.Nat.{ℕ, zero, suc, ◌+◌, ◌*◌, ◌-◌, ◌%◌, ◌≤◌, ◌<◌}
 use native.Mathlib.Nat.{eq-or-lt_of_le}
-use native.Mathlib.Numerals.{add-one}
 use native.Mathlib.Omega.{arith}
 use mathlib.Core.Path.{◌≡◌, refl, ap, sym, ◌∙◌, subst}
 use mathlib.Core.Logic.{◌≢◌, ◌⊎◌, inl, inr, ⊎_elim}
@@ -201,12 +200,18 @@ module _ (carts nexts : List ℕ) (n : ℕ) (low : (l : ℕ) → l < n → get_o
           let other : n - suc l ≢ n - suc left = λ s. omega arith in
           get_or-set_other skips (n - suc left) (n - suc l) x 0 other ∙ c.skips_are l (omega arith) ∙ skip_kept skips left x h l (omega arith)
 
-  -- the same, as the code counts
-  pub one_skipped : (skips : List ℕ) (left : ℕ) → Skipped carts nexts skips n left → left < n → n ≤ length skips → (m : ℕ) → m ≡ get_or nexts (n - (left + 1)) 0
-      → (t : Bool) → t ≡ same_cart carts n (n - (left + 1)) m → (x : ℕ) → x ≡ cond t (get_or skips (n - m) 0) (get_or nexts (n - (left + 1)) 0)
-      → Skipped carts nexts (set skips (n - (left + 1)) x) n (left + 1)
+  -- the same, as the code counts, backwards: the next visit is one of those after it
+  pub low_at : (u : ℕ) → 0 < u → u ≤ n → get_or nexts (u - 1) 0 ≤ n - u
+  low_at u some h = let at : n - suc (n - u) ≡ u - 1 = omega arith in subst (λ (y : ℕ). get_or nexts y 0 ≤ n - u) at (low (n - u) (omega arith))
+
+  pub one_skipped : (skips : List ℕ) (u : ℕ) → Skipped carts nexts skips n (n - u) → 0 < u → u ≤ n → n ≤ length skips → (m : ℕ) → m ≡ get_or nexts (u - 1) 0
+      → (t : Bool) → t ≡ same_cart carts n (u - 1) m → (x : ℕ) → x ≡ cond t (get_or skips (n - m) 0) (get_or nexts (u - 1) 0)
+      → Skipped carts nexts (set skips (u - 1) x) n (n - (u - 1))
   unfolding skip_of
-  one_skipped skips left c h room m e t q x z =
-      let u : ℕ = n - (left + 1) in
-      subst (λ (y : ℕ). x ≡ skip_of carts nexts skips n (n - y) → Skipped carts nexts (set skips (n - y) x) n y) (sym (add-one left)) (one_suc skips left x c h room)
-      (z ∙ ap (λ (b : Bool). cond b (get_or skips (n - m) 0) (get_or nexts u 0)) q ∙ ap (λ (k : ℕ). cond (same_cart carts n u k) (get_or skips (n - k) 0) (get_or nexts u 0)) e)
+  one_skipped skips u c some h room m e t q x z =
+      let v : ℕ = u - 1 in
+      let at : n - suc (n - u) ≡ v = omega arith in
+      let more : suc (n - u) ≡ n - v = omega arith in
+      subst (Skipped carts nexts (set skips v x) n) more
+      (subst (λ (y : ℕ). x ≡ skip_of carts nexts skips n y → Skipped carts nexts (set skips y x) n (suc (n - u))) at (one_suc skips (n - u) x c (omega arith) room)
+      (z ∙ ap (λ (b : Bool). cond b (get_or skips (n - m) 0) (get_or nexts v 0)) q ∙ ap (λ (k : ℕ). cond (same_cart carts n v k) (get_or skips (n - k) 0) (get_or nexts v 0)) e))

@@ -1,5 +1,5 @@
 // The order bounds counted along the row of all visits.
-// A number is narrowed by `as` where it fits: a `try_from` would have an error that cannot come.
+// A u32 has no `From` to a usize, and a number is narrowed by `as` where it fits: a `try_from` would have an error that cannot come.
 ghost use Rattle.std.specs.Prelude.{◌≡◌, ℕ, ◌+◌, ◌*◌, ◌≤◌, ◌<◌, leb, length, get_or};
 ghost use Rattle.limits.specs.OfPaths.{orders_of};
 ghost use Rattle.limits.specs.Counts.{counts, later_carts, orders_among, stop_at, left_out, Chained};
@@ -31,7 +31,8 @@ fn is_left_out(row: &Row, u: usize, left: usize) -> bool
     (x.cart == h.cart) && (x.cell == h.cell) && (x.step <= h.step)
 }
 
-// How many other carts visit the cell of visit v later. The visits linked for its remainder are gone through.
+// How many other carts visit the cell of visit v later. The visits linked for its remainder are gone through. `put_later` (orders.rt) goes another way, with links
+// of its own: one function told all of that by closures would be no plainer than both.
 fn others_later(chain: &Chain, v: usize) -> usize
     requires { v < chain.now.row.n }
     ensures { result ≡ later_carts (stop_at chain.now.row.numbers.now chain.now.row.times.now chain.now.row.places.now v) 0

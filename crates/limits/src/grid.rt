@@ -1,5 +1,5 @@
 // Paths that are few and short enough to be counted, and those of them that keep the limit of events.
-// A number is narrowed by `as` where it fits: a `try_from` would have an error that cannot come.
+// A u32 has no `From` to a usize, and a number is narrowed by `as` where it fits: a `try_from` would have an error that cannot come.
 ghost use Rattle.std.specs.Prelude.{◌≡◌, true, false, ◌+◌, ◌*◌, ◌≤◌, ◌<◌, length, take, drop, MatchOption};
 ghost use Rattle.limits.specs.Counts.{moves};
 ghost use Rattle.limits.specs.OfPaths.{moves_of, keep_events};

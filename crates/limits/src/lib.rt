@@ -45,7 +45,8 @@ fn put_firsts(kept: &Kept, firsts: &mut [u16])
     firsts[carts] = e as u16;
 }
 
-// Writes the numbers of the carts' first events to the front of an array, and the finish's behind them; whether there are such.
+// Writes the numbers of the carts' first events to the front of an array, and the finish's behind them; whether there are such. This is a bool: they are in the
+// caller's array, so that an Option would hold nothing.
 pub fn first_events(paths: Paths, firsts: &mut [u16]) -> bool
     ensures answer { result ≡ events_fit paths.entry.carts paths.entry.steps paths.entry.cells.now (length firsts.old) }
     ensures left { firsts.new ≡ written (firsts_fitting paths.entry.carts paths.entry.steps paths.entry.cells.now (length firsts.old)) firsts.old }
@@ -63,20 +64,18 @@ pub fn first_events(paths: Paths, firsts: &mut [u16]) -> bool
     }
 }
 
-// Puts the order bounds of paths from the k-th place on; returns how many there are, 0 where the limit of events is not kept. A cart alone has none,
-// and few visits need only short arrays.
-pub fn order_bounds(paths: Paths, out: &mut BoundArrays, k: usize) -> usize
+// Puts the order bounds of paths; returns how many there are, 0 where the limit of events is not kept. A cart alone has none, and few visits need only short
+// arrays: a const parameter is a constant, so that each size is an arm.
+pub fn order_bounds(paths: Paths, out: &mut BoundArrays) -> usize
     ensures answer { result ≡ length (bounds_kept paths.entry) }
-    ensures left { Puts out.old out.new k (bounds_kept paths.entry) }
+    ensures left { Puts out.old out.new (bounds_kept paths.entry) }
 {
     if paths.carts < 2 {
         return 0;
     }
-    let place = out.place(k);
     match Kept::of(paths) {
-        Some(kept) if paths.carts + kept.moves <= 128 => orders::put_all::<128>(&kept, out, place)
-            - place,
-        Some(kept) => orders::put_all::<1408>(&kept, out, place) - place,
+        Some(kept) if paths.carts + kept.moves <= 128 => orders::put_all::<128>(&kept, out),
+        Some(kept) => orders::put_all::<1408>(&kept, out),
         None => 0,
     }
 }

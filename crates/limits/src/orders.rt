@@ -9,7 +9,7 @@ ghost use Rattle.limits.specs.Row.{visit_bounds, bounds_among};
 use crate::grid::Kept;
 use crate::row::{Links, Row, Visits};
 use crate::{count, filling};
-use network::BoundArrays;
+use network::{Bound, BoundArrays};
 
 // The entry event of visit u, one of cart j. From a cart's visit to its next are three events, from its last to the next cart's first one.
 fn entry_event(u: usize, j: u8) -> u16
@@ -34,8 +34,7 @@ fn put_skips(row: &Row, nexts: &[u16], skips: &mut [u16])
     requires by_index { (l : ℕ) → l < row.now.n → get_or nexts.now (row.now.n - suc l) 0 ≤ l }
     ensures { Skipped row.now.numbers.now nexts.now skips.new row.now.n row.now.n }
 {
-    for left in 0..row.n {
-        let u = row.n - (left + 1);
+    for u in (0..row.n).rev() {
         let next = usize::from(nexts[u]);
         skips[u] = if is_same_cart(row, u, next) {
             skips[row.n - next]
@@ -45,33 +44,35 @@ fn put_skips(row: &Row, nexts: &[u16], skips: &mut [u16])
     }
 }
 
-// The next visit to look at after u, one of cart i: none of its cart where that is j or k, which are not counted.
-#[tactic(auto, unfolding(crate::specs::Counts::next_after))]
-fn next_after(links: &Links, u: usize, i: u8, j: u8, k: u8) -> usize
-    requires { u < links.now.row.n }
-    ensures { result ≡ next_after links.now.nexts.now links.now.skips.now u i j k }
-{
-    let next = if (j == i) | (k == i) {
-        links.skips[u]
-    } else {
-        links.nexts[u]
-    };
-    usize::from(next)
+impl<'r> Links<'r> {
+    // The next visit to look at after u: none of its cart where that is j or k, which are not counted.
+    #[tactic(auto, unfolding(crate::specs::Counts::next_after))]
+    fn next_after(&self, u: usize, j: u8, k: u8) -> usize
+        requires { u < self.now.row.n }
+        ensures { result ≡ next_after self.now.nexts.now self.now.skips.now u (get_or self.now.row.numbers.now u 0) j k }
+    {
+        let i = self.row.numbers[u];
+        let next = if (j == i) | (k == i) {
+            self.skips[u]
+        } else {
+            self.nexts[u]
+        };
+        usize::from(next)
+    }
 }
 
-// Puts the bounds from visit v, the first of them number k; returns the number after them. The visits of its remainder are gone through,
-// without those of a cart that is not counted.
-fn put_later(links: &Links, v: usize, out: &mut BoundArrays, k: usize) -> usize
+// Puts the bounds from visit v; returns how many there are. The visits of its remainder are gone through, without those of a cart that is not counted.
+fn put_later(links: &Links, v: usize, out: &mut BoundArrays) -> usize
     requires v_bound { v < links.now.row.n }
-    requires k_bound { k + length (visit_bounds links.now.row v) < 2 ^ 63 }
-    ensures value { result ≡ k + length (visit_bounds links.now.row v) }
-    ensures put { Puts out.old out.new k (visit_bounds links.now.row v) }
+    requires few { length (visit_bounds links.now.row v) < 2 ^ 63 }
+    ensures value { result ≡ length (visit_bounds links.now.row v) }
+    ensures put { Puts out.old out.new (visit_bounds links.now.row v) }
 {
     let row = links.row;
     let x = row.at(v);
     let from = entry_event(v, x.cart) + 1;
     let mut last: u8 = 0;
-    let mut m = k;
+    let mut n: usize = 0;
     let mut left = usize::from(links.heads[(x.cell % 1024) as usize]);
     // a `while`: which visit comes next is said by the one at hand
     while 0 < left {
@@ -79,37 +80,40 @@ fn put_later(links: &Links, v: usize, out: &mut BoundArrays, k: usize) -> usize
         let y = row.at(u);
         let to = entry_event(u, y.cart) - 1;
         if count::is_counted(x, last, y) {
-            out.put(m, from, to, 0, None);
-            m += 1;
+            out.put(Bound {
+                from,
+                to,
+                lo: 0,
+                hi: None,
+            });
+            n += 1;
             last = y.cart;
         }
-        left = next_after(links, u, y.cart, x.cart, last);
+        left = links.next_after(u, x.cart, last);
     }
-    m
+    n
 }
 
-// Puts the order bounds among the visits, the first of them number k; returns the number after them: not more than one from each of 1,408 visits to
-// each of 64 carts.
-fn put_orders(links: &Links, out: &mut BoundArrays, k: usize) -> usize
-    requires k_bound { k + length (bounds_among links.now.row) < 2 ^ 63 }
-    ensures value { result ≡ k + length (bounds_among links.now.row) }
-    ensures put { Puts out.old out.new k (bounds_among links.now.row) }
+// Puts the order bounds among the visits; returns how many there are: not more than one from each of 1,408 visits to each of 64 carts.
+fn put_orders(links: &Links, out: &mut BoundArrays) -> usize
+    requires { length (bounds_among links.now.row) < 2 ^ 63 }
+    ensures value { result ≡ length (bounds_among links.now.row) }
+    ensures put { Puts out.old out.new (bounds_among links.now.row) }
 {
-    let mut m = k;
+    let mut n: usize = 0;
     for v in 0..links.row.n.saturating_sub(1) {
         if links.row.numbers[v] == links.row.numbers[v + 1] {
-            m = put_later(links, v, out, m);
+            n += put_later(links, v, out);
         }
     }
-    m
+    n
 }
 
-// Puts the order bounds of all paths, by arrays of N places: few of them take little time to clear. Returns the number after them.
-pub(crate) fn put_all<const N: usize>(kept: &Kept, out: &mut BoundArrays, k: usize) -> usize
-    requires room { (kept.now.grid.paths.carts + kept.now.moves ≤ N) × (N ≤ 1408) }
-    requires k_bound { k ≤ 2 ^ 62 }
-    ensures value { result ≡ k + length (bounds_of kept.now.grid.paths) }
-    ensures put { Puts out.old out.new k (bounds_of kept.now.grid.paths) }
+// Puts the order bounds of all paths, by arrays of N places: few of them take little time to clear. Returns how many there are.
+pub(crate) fn put_all<const N: usize>(kept: &Kept, out: &mut BoundArrays) -> usize
+    requires { (kept.now.grid.paths.carts + kept.now.moves ≤ N) × (N ≤ 1408) }
+    ensures value { result ≡ length (bounds_of kept.now.grid.paths) }
+    ensures put { Puts out.old out.new (bounds_of kept.now.grid.paths) }
 {
     let mut visits = Visits::<N>::new();
     let row = visits.arrays().fill(kept);
@@ -124,5 +128,5 @@ pub(crate) fn put_all<const N: usize>(kept: &Kept, out: &mut BoundArrays, k: usi
         nexts: &nexts,
         skips: &skips,
     };
-    put_orders(&links, out, k)
+    put_orders(&links, out)
 }

@@ -66,7 +66,7 @@ pub(crate) struct Row<'a> {
 
 // A row linked for counting. A link is how many visits are left from there on.
 // 0 is no visit, as an Option would take two bytes more each, and there is no heap for other links.
-#[derive(Drop)]
+#[derive(Clone, Copy)]
 pub(crate) struct Chain<'r> {
     pub row: Row<'r>,
     pub heads: &'r [u16],
@@ -76,7 +76,7 @@ pub(crate) struct Chain<'r> {
 }
 
 // A row whose visits are linked by their cells' remainders, with the next of another cart to each; a cart's number is at most one more than a visit's place.
-#[derive(Drop)]
+#[derive(Clone, Copy)]
 pub(crate) struct Links<'r> {
     pub row: Row<'r>,
     pub heads: &'r [u16],

@@ -1,12 +1,11 @@
 -- Bounds stored in an array, one after the other: two numbers each. Assumes nothing.
 use Prim.Native.Nat.{ℕ, zero, suc, ◌+◌, ◌*◌, ◌-◌, ◌≤◌, ◌<◌, min}
 use native.Mathlib.Nat.{add-zero, min-eq_left, min-eq_right}
-use native.Mathlib.Numerals.{add-one}
 use native.Mathlib.Omega.{arith}
 use mathlib.Core.Path.{◌≡◌, refl, ap, sym, ◌∙◌}
 use mathlib.Core.Logic.{⊎_elim}
 use mathlib.Core.List.{List, [], ◌∷◌, ◌++◌, flat_map, append_assoc, append-nil}
-use lib.ListN.{length, take, drop, set, length-append, length-set, length-drop, drop_of_length-le}
+use lib.ListN.{length, take, drop, set, length-append, length-drop, drop_of_length-le}
 use lib.Seq.{sets, sets-eq}
 use borrow.Rule.Slice.PartMut.{mid_of, put_mid}
 use Rattle.laws.proofs.Tests.{below_or_not}
@@ -15,10 +14,6 @@ use Rattle.std.proofs.lemmas.List.{set_past}
 use Rattle.words.specs.Words.{written}
 use Rattle.network.specs.Bounds.{Bound}
 use Rattle.network.specs.BoundArrays.{bound_ends, bound_range}
-
--- two numbers stored
-pub two_stored : {A : Type 0} (s : List A) (i : ℕ) (a b : A) → set (set s i a) (i + 1) b ≡ sets s i (a ∷ b ∷ [])
-two_stored s i a b = ap (λ (n : ℕ). set (set s i a) n b) (add-one i)
 
 -- numbers stored behind others
 pub sets_append : {A : Type 0} (vs ws s : List A) (i : ℕ) → sets s i (vs ++ ws) ≡ sets (sets s i vs) (i + length vs) ws
@@ -31,10 +26,6 @@ sets_append (v ∷ vs) ws s i =
 pub sets_past : {A : Type 0} (vs s : List A) (i : ℕ) → length s ≤ i → sets s i vs ≡ s
 sets_past [] s i h = refl
 sets_past (v ∷ vs) s i h = ap (λ l. sets l (suc i) vs) (set_past s i v h) ∙ sets_past vs s (suc i) (omega arith)
-
--- of two numbers the first alone, where there is no place for the second
-pub half_stored : {A : Type 0} (s : List A) (i : ℕ) (a b : A) → length s ≤ i + 1 → set s i a ≡ sets s i (a ∷ b ∷ [])
-half_stored s i a b h = sym (sets_past (b ∷ []) (set s i a) (suc i) (omega (arith, length-set s i a)))
 
 -- behind the first number of a list
 sets_behind : (x : ℕ) (xs vs : List ℕ) (i : ℕ) → sets (x ∷ xs) (suc i) vs ≡ x ∷ sets xs i vs
@@ -100,6 +91,12 @@ module _ (g : Bound → List ℕ) (p : Pairs g) where
       ∙ ap (λ (n : ℕ). sets (sets s (2 * k) (flat_map g xs)) n (flat_map g ys)) place
       ∙ sym (sets_append (flat_map g xs) (flat_map g ys) s (2 * k))
       ∙ ap (λ (l : List ℕ). sets s (2 * k) l) (sym (flat_append g xs ys))
+
+  -- behind one
+  pub one_stored : (s t : List ℕ) (k : ℕ) (b : Bound) (ys : List Bound) → t ≡ sets s (2 * k) (g b)
+      → sets t (2 * (k + 1)) (flat_map g ys) ≡ sets s (2 * k) (flat_map g (b ∷ ys))
+  unfolding flat_map
+  one_stored s t k b ys q = more_stored s t k (k + 1) (b ∷ []) ys refl (q ∙ ap (λ (l : List ℕ). sets s (2 * k) l) (sym (append-nil (g b))))
 
 -- none
 pub none_stored : (g : Bound → List ℕ) (s : List ℕ) (k : ℕ) (bs : List Bound) → bs ≡ [] → s ≡ sets s k (flat_map g bs)

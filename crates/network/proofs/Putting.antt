@@ -1,5 +1,5 @@
 -- Bounds put in two arrays, some behind the others. Assumes nothing.
-use Rattle.std.specs.Prelude.{ℕ, ◌+◌, ◌*◌, ◌≤◌, ◌<◌, min, max, List, [], ◌++◌, length, Some, None}
+use Rattle.std.specs.Prelude.{ℕ, ◌+◌, ◌*◌, ◌≤◌, ◌<◌, min, List, [], ◌++◌, length, Some, None}
 use native.Mathlib.Nat.{min-eq_left, min-eq_right}
 use native.Mathlib.Omega.{arith}
 use mathlib.Core.Path.{◌≡◌, refl, ap, sym, ◌∙◌, subst}
@@ -21,81 +21,71 @@ unfolding hi_kept
 kept_hi h l = ap (λ (b : Bool). cond b (Some h) None) (lt-ltb h 18_446_744_073_709_551_615 l)
 
 -- none put
-pub puts_none : (a : BoundArrays) (k : ℕ) (bs : List Bound) → bs ≡ [] → Puts a a k bs
-puts_none a k bs e = record {
+pub puts_none : (a : BoundArrays) (bs : List Bound) → bs ≡ [] → Puts a a bs
+puts_none a bs e = record {
   same_ends = refl;
   same_ranges = refl;
-  ends = none_stored bound_ends a.ends.now (2 * k) bs e;
-  ranges = none_stored bound_range a.ranges.now (2 * k) bs e;
+  ends = none_stored bound_ends a.ends.now (2 * a.place) bs e;
+  ranges = none_stored bound_range a.ranges.now (2 * a.place) bs e;
+  place = omega (arith, a.in_memory.2, ap length e);
 }
 
+-- behind the end of an array none has a place
+stored_next : (g : Bound → List ℕ) (s : List ℕ) (k j : ℕ) (bs : List Bound) → j ≡ min k 18_446_744_073_709_551_615 → length s ≤ 18_446_744_073_709_551_615
+    → sets s (2 * j) (flat_map g bs) ≡ sets s (2 * k) (flat_map g bs)
+stored_next g s k j bs e l =
+    ⊎_elim
+    (λ (h : k < 18_446_744_073_709_551_615). ap (λ (n : ℕ). sets s (2 * n) (flat_map g bs)) (e ∙ min-eq_left (omega arith)))
+    (λ (h : 18_446_744_073_709_551_615 ≤ k).
+    let q : j ≡ 18_446_744_073_709_551_615 = e ∙ min-eq_right h in
+    sets_past (flat_map g bs) s (2 * j) (omega arith) ∙ sym (sets_past (flat_map g bs) s (2 * k) (omega arith)))
+    (below_or_not k 18_446_744_073_709_551_615)
+
 -- some put, and more behind them
-pub puts_more : (a b c : BoundArrays) (k j : ℕ) (xs ys : List Bound) → Puts a b k xs → Puts b c j ys → j ≡ k + length xs → Puts a c k (xs ++ ys)
-puts_more a b c k j xs ys p q e = record {
+pub puts_more : (a b c : BoundArrays) (xs ys : List Bound) → Puts a b xs → Puts b c ys → Puts a c (xs ++ ys)
+puts_more a b c xs ys p q = record {
   same_ends = q.same_ends ∙ p.same_ends;
   same_ranges = q.same_ranges ∙ p.same_ranges;
-  ends = q.ends ∙ more_stored bound_ends by_ends a.ends.now b.ends.now k j xs ys e p.ends;
-  ranges = q.ranges ∙ more_stored bound_range by_range a.ranges.now b.ranges.now k j xs ys e p.ranges;
+  ends = q.ends ∙ stored_next bound_ends b.ends.now (a.place + length xs) b.place ys p.place (omega (arith, b.in_memory.0))
+      ∙ more_stored bound_ends by_ends a.ends.now b.ends.now a.place (a.place + length xs) xs ys refl p.ends;
+  ranges = q.ranges ∙ stored_next bound_range b.ranges.now (a.place + length xs) b.place ys p.place (omega (arith, b.in_memory.1))
+      ∙ more_stored bound_range by_range a.ranges.now b.ranges.now a.place (a.place + length xs) xs ys refl p.ranges;
+  place = omega (arith, p.place, q.place, length-append xs ys);
 }
 
 -- no array gets another length
-pub puts_long : (a b : BoundArrays) (k : ℕ) (bs : List Bound) → Puts a b k bs
+pub puts_long : (a b : BoundArrays) (bs : List Bound) → Puts a b bs
     → (length b.ends.now ≡ length a.ends.now) × (length b.ranges.now ≡ length a.ranges.now)
-puts_long a b k bs p =
-    (ap length p.ends ∙ length-sets a.ends.now (2 * k) (flat_map bound_ends bs), ap length p.ranges ∙ length-sets a.ranges.now (2 * k) (flat_map bound_range bs))
-
--- behind the end of an array none has a place
-stored_past : (g : Bound → List ℕ) (s : List ℕ) (m k j : ℕ) (bs : List Bound) → j ≡ min k m → length s ≤ m
-    → sets s (2 * j) (flat_map g bs) ≡ sets s (2 * k) (flat_map g bs)
-stored_past g s m k j bs e l =
-    ⊎_elim
-    (λ (h : k < m). ap (λ (n : ℕ). sets s (2 * n) (flat_map g bs)) (e ∙ min-eq_left (omega arith)))
-    (λ (h : m ≤ k).
-    let q : j ≡ m = e ∙ min-eq_right h in
-    sets_past (flat_map g bs) s (2 * j) (omega arith) ∙ sym (sets_past (flat_map g bs) s (2 * k) (omega arith)))
-    (below_or_not k m)
-
--- what is put at a place is put in the k-th
-pub puts_placed : (a b : BoundArrays) (k j : ℕ) (bs : List Bound) → j ≡ min k (max (length a.ends.now) (length a.ranges.now)) → Puts a b j bs → Puts a b k bs
-puts_placed a b k j bs e p =
-    let m : ℕ = max (length a.ends.now) (length a.ranges.now) in record {
-      same_ends = p.same_ends;
-      same_ranges = p.same_ranges;
-      ends = p.ends ∙ stored_past bound_ends a.ends.now m k j bs e (omega arith);
-      ranges = p.ranges ∙ stored_past bound_range a.ranges.now m k j bs e (omega arith);
-    }
+puts_long a b bs p = (
+  ap length p.ends ∙ length-sets a.ends.now (2 * a.place) (flat_map bound_ends bs),
+  ap length p.ranges ∙ length-sets a.ranges.now (2 * a.place) (flat_map bound_range bs),
+)
 
 -- ---- in a loop
 
--- of all bounds, from the k-th place on, these are yet to be put, from the j-th place on: the arrays were a at first
-pub record Putting (a b : BoundArrays) (k j : ℕ) (all rest : List Bound) : Type 0 where
+-- of all bounds these are yet to be put: the arrays were a at first
+pub record Putting (a b : BoundArrays) (all rest : List Bound) : Type 0 where
   pub done : List Bound
   pub are : done ++ rest ≡ all
-  pub count : j ≡ k + length done
-  pub puts : Puts a b k done
+  pub puts : Puts a b done
 
 -- at first all
-pub putting_first : (a : BoundArrays) (k j : ℕ) (all rest : List Bound) → j ≡ k → rest ≡ all → Putting a a k j all rest
-putting_first a k j all rest e q = record { done = []; are = q; count = omega (arith, e); puts = puts_none a k [] refl }
+pub putting_first : (a : BoundArrays) (all rest : List Bound) → rest ≡ all → Putting a a all rest
+putting_first a all rest q = record { done = []; are = q; puts = puts_none a [] refl }
 
-module _ {a b : BoundArrays} {k j : ℕ} {all rest : List Bound} (w : Putting a b k j all rest) where
+module _ {a b : BoundArrays} {all rest : List Bound} (w : Putting a b all rest) where
   -- some are put
-  pub putting_more : (c : BoundArrays) (i : ℕ) (bs more : List Bound) → rest ≡ bs ++ more → Puts b c j bs → i ≡ j + length bs → Putting a c k i all more
-  putting_more c i bs more e p q = record {
+  pub putting_more : (c : BoundArrays) (bs more : List Bound) → rest ≡ bs ++ more → Puts b c bs → Putting a c all more
+  putting_more c bs more e p = record {
     done = w.done ++ bs;
     are = append_assoc w.done bs more ∙ ap (λ (l : List Bound). w.done ++ l) (sym e) ∙ w.are;
-    count = omega (arith, w.count, q, length-append w.done bs);
-    puts = puts_more a b c k j w.done bs w.puts p w.count;
+    puts = puts_more a b c w.done bs w.puts p;
   }
 
   -- none is
-  pub putting_none : (i : ℕ) (more : List Bound) → rest ≡ more → i ≡ j → Putting a b k i all more
-  putting_none i more e q = putting_more b i [] more e (puts_none b j [] refl) (omega (arith, q))
-
-  -- how many there are: those put and those to come
-  pub putting_count : j + length rest ≡ k + length all
-  putting_count = omega (arith, w.count, ap length w.are, length-append w.done rest)
+  pub putting_none : (more : List Bound) → rest ≡ more → Putting a b all more
+  putting_none more e = putting_more b [] more e (puts_none b [] refl)
 
   -- at last all
-  pub putting_all : rest ≡ [] → Puts a b k all
-  putting_all e = subst (Puts a b k) (sym (append-nil w.done) ∙ ap (λ (l : List Bound). w.done ++ l) (sym e) ∙ w.are) w.puts
+  pub putting_all : rest ≡ [] → Puts a b all
+  putting_all e = subst (Puts a b) (sym (append-nil w.done) ∙ ap (λ (l : List Bound). w.done ++ l) (sym e) ∙ w.are) w.puts

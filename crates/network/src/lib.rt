@@ -1,17 +1,30 @@
 // Bounds in arrays. The events and bounds of a plan are defined in specs/.
 #![tactic(auto)]
 
-ghost use Rattle.std.specs.Prelude.{◌≡◌, [], ◌∷◌, ◌*◌, ◌≤◌, min, max, length};
+ghost use Rattle.std.specs.Prelude.{◌≡◌, [], ◌∷◌, ◌*◌, ◌^◌, ◌≤◌, ◌<◌, length};
 ghost use Rattle.std.proofs.lemmas.List.Edits.{sets};
 
-// The arrays that bounds are written to, two numbers of each in either: the events that it goes from and to, and its range.
+// A bound in numbers: the events that it goes from and to, and its range.
+#[derive(Clone, Copy)]
+pub struct Bound {
+    pub from: u16,
+    pub to: u16,
+    pub lo: u64,
+    pub hi: Option<u64>,
+}
+
+// The arrays that bounds are written to, two numbers of each in either: the events that it goes from and to, and its range; and in which place the next is put.
+// Two arrays, as memory is fixed: a `Bound` with its `Option` takes 32 bytes, and not 20. `Drop` alone is derived, as `&mut` slices can't be copied or compared.
 #[derive(Drop)]
 pub struct BoundArrays<'a> {
     pub ends: &'a mut [u16],
     pub ranges: &'a mut [u64],
+    pub place: usize,
+    // as all slices and numbers are: nobody who makes one has to show it
+    ghost in_memory: { (length ends.now ≤ 2 ^ 62) × (length ranges.now ≤ 2 ^ 62) × (place < 2 ^ 64) },
 }
 
-// Puts two numbers in the k-th place of an array, as far as it goes.
+// Puts two numbers in the k-th place of an array, as far as it goes: the last place may have room for one alone, so that pairs would say less.
 fn put_two<T: Copy>(s: &mut [T], k: usize, a: T, b: T)
     ensures { s.new ≡ sets s.old (2 * k) (a ∷ b ∷ []) }
 {
@@ -28,21 +41,14 @@ fn put_two<T: Copy>(s: &mut [T], k: usize, a: T, b: T)
 impl<'a> BoundArrays<'a> {
     ghost use Rattle.network.specs.BoundArrays.{Puts, bound_of};
 
-    // Puts a bound in the k-th place, as far as the arrays go.
-    pub fn put(&mut self, k: usize, from: u16, to: u16, lo: u64, hi: Option<u64>)
-        ensures { Puts self.old self.new k (bound_of from to lo hi ∷ []) }
+    // Puts a bound in its place, as far as the arrays go; the next is put behind it.
+    pub fn put(&mut self, bound: Bound)
+        ensures { Puts self.old self.new (bound_of bound ∷ []) }
     {
-        put_two(self.ends, k, from, to);
-        // one more than hi, and 0 for none, as for the largest
-        let after = hi.map_or(0, |h| h.wrapping_add(1));
-        put_two(self.ranges, k, lo, after);
-    }
-
-    // The k-th place, or one behind both arrays where that comes first: what is put there is what is put in the k-th.
-    pub fn place(&self, k: usize) -> usize
-        ensures value { result ≡ min k (max (length self.now.ends.now) (length self.now.ranges.now)) }
-        ensures far { result ≤ 4611686018427387904 }
-    {
-        k.min(self.ends.len().max(self.ranges.len()))
+        put_two(self.ends, self.place, bound.from, bound.to);
+        // one more than hi, and 0 for none, as for the largest: memory is fixed, and an `Option` takes twice as much
+        let after = bound.hi.map_or(0, |h| h.wrapping_add(1));
+        put_two(self.ranges, self.place, bound.lo, after);
+        self.place = self.place.saturating_add(1);
     }
 }

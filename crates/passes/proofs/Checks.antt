@@ -9,7 +9,7 @@ use lib.Dec.{T}
 use borrow.Author.Count.{below_more}
 use lib.IntN.{ℤ, pos, negsuc, nat_abs, ◌+ℤ◌}
 use lib.Signed.{lt_z, ◌≤ℤ◌, ◌<ℤ◌}
-use lib.ListN.{length, set, length-set}
+use lib.ListN.{length, set, length-set, get_or-eq_default}
 use lib.Seq.{get_or-set_same, get_or-set_other}
 use mir.Syntax.{w64}
 use mir.Val.{SFits, to_z, of_z}
@@ -123,3 +123,18 @@ all_rounded {values₀} r h k p range low = record {
   none_more = λ x b. r.none_more x (omega arith);
   reached = ⊎_elim (λ q. absurd (omega arith)) (λ (v, l, e). (v, omega arith, e)) r.reached;
 }
+
+-- a value that is rounded is no farther from 0, so the times are in the range
+round_near : (z t : ℤ) (h : ℕ) → Within 1_152_921_504_606_846_976 z → Rounds z t h → Within 1_152_921_504_606_846_976 t
+round_near z (pos n) h w r = record {
+  above = omega (signed, r.holds, sum z (pos h), product scale (pos n), r.few, w.above);
+  under = omega arith;
+}
+round_near z (negsuc n) h w r = absurd (omega (signed, r.no_less))
+
+pub rounded_range : (values₀ values : List ℤ) (most : ℕ) → Rounded values₀ values most → length values ≡ length values₀ → InRange values₀ → InRange values
+rounded_range values₀ values most r long range v =
+    ⊎_elim (λ (l : v < length values). let l₀ : v < length values₀ = omega (arith, l, long) in
+    round_near (value values₀ v) (value values v) (r.hops v) (range v) (r.each v l₀))
+    (λ (l : length values ≤ v). rw (get_or-eq_default {A = ℤ} values (pos 0) {n = v} l) (record { above = omega arith; under = omega arith }))
+    (cases_lt v (length values))

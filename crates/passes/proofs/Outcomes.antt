@@ -11,6 +11,7 @@ use lib.ListN.{length, take, set, replicate}
 use Rattle.std.proofs.lemmas.List.{take-replicate}
 use Rattle.words.specs.Words.{words, written}
 use Rattle.network.specs.Bounds.{Bound}
+use Rattle.network.specs.BoundArrays.{bounds_in}
 use Rattle.walks.specs.Passes.{Sums, at_start, same_number, settled}
 use Rattle.schedule.specs.Timetable.{time, ways, timetable_of}
 use Rattle.schedule.specs.Lent.{Lent, long_enough, times_written, chain_written}
@@ -18,7 +19,7 @@ use Rattle.schedule.proofs.Lent.{Room, room}
 use Rattle.passes.specs.declared.Found.{Found}
 use Rattle.passes.specs.declared.Chain.{Chain}
 use Rattle.passes.specs.declared.Solved.{Solved}
-use Rattle.passes.specs.Solving.{times_of, Solves, timed, cycle, Searched, search_solves, search_nothing}
+use Rattle.passes.specs.Solving.{network_fits, times_of, Solves, timed, cycle, Solving, solved, Searched, search_solves, search_nothing}
 use Rattle.passes.specs.Marks.{low, sum_at, sums_in, Coded, Finds, finds_times, finds_cycle, CycleFound, ChainFound}
 use Rattle.passes.proofs.Marks.{low_none}
 
@@ -85,6 +86,14 @@ first_sums (suc n) zero g h = absurd (omega arith)
 first_sums (suc n) (suc k) g h = ap (λ (s : Sums). Some (pos 0) ∷ s) (ap sums_in (take-replicate n k low (omega arith)) ∙ none_everywhere n)
 
 -- ---- the slices lent
+
+-- what is solved, by what is left in each slice
+pub solved_left : {own m n : ℕ} {ends ranges : List ℕ} {l l' l'' : Lent} {a : Solved} → (network_fits m n ends ranges && long_enough l) ≡ true
+    → Solves own n (bounds_in m ends ranges) l a l' → l'.times ≡ l''.times → l'.chain_bounds ≡ l''.chain_bounds → l'.chain_directions ≡ l''.chain_directions
+    → Solving own m n ends ranges l (Some a) l''
+solved_left {own} {m} {n} {ends} {ranges} {l} {l'} {l''} {a} f s t b d =
+    let same : l' ≡ l'' = λ i. record { times = t i; chain_bounds = b i; chain_directions = d i } in
+    solved f a l'' (subst (λ x. Solves own n (bounds_in m ends ranges) l a x) same s)
 
 -- room that the test says
 pub roomy : (l : Lent) → long_enough l ≡ true → Room l

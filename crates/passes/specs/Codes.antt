@@ -1,11 +1,14 @@
--- A number is a code of the bounds in one way at most, by which a ghost field can say that numbers are codes.
+-- A number is a code of the bounds in one way at most, by which a ghost field can say that numbers are codes, and what sweeps keep.
 -- Assumes nothing.
-use Rattle.std.specs.Prelude.{ℕ, ◌+◌, ◌*◌, ◌<◌, ◌≡◌, List, length, get_or, Some}
+use Rattle.std.specs.Prelude.{ℕ, ◌+◌, ◌*◌, ◌<◌, ◌≡◌, ℤ, List, length, get_or, Some}
 use Rattle.std.proofs.Common.{arith, sym, subst}
 use Rattle.std.proofs.Props.{props}
 use Rattle.network.specs.Bounds.{Bound}
+use Rattle.passes.specs.declared.arrays.Network.{Network}
 use Rattle.passes.specs.Solving.{no_bound}
 use Rattle.passes.specs.Marks.{Code, of_none, of_forward, of_backward, Coded}
+use Rattle.passes.specs.Values.{InRange}
+use Rattle.passes.specs.Networks.{bounds_of, Kept}
 
 module _ (bs : List Bound) (code : ℕ) where
   forward_one : (i j : ℕ) → i ≡ j → (l : i < length bs) (e : code ≡ 2 * i + 1) (m : j < length bs) (f : code ≡ 2 * j + 1)
@@ -48,3 +51,16 @@ module _ (bs : List Bound) (code : ℕ) where
 
 pub Coded-prop : (bs : List Bound) (codes : List ℕ) → IsProp (Coded bs codes)
 Coded-prop bs codes x y k v = code_prop bs (get_or codes v 0) (x v) (y v) k
+
+-- and so of all that sweeps keep
+pub Kept-prop : (net : Network) (values : List ℤ) (parents : List ℕ) → IsProp (Kept net values parents)
+Kept-prop net values parents x y =
+    let l : IsProp (length values ≡ net.events) = hlevel props in
+    let m : IsProp (length parents ≡ net.events) = hlevel props in
+    let r : IsProp (InRange values) = hlevel props in
+    λ k. record {
+      long = l x.long y.long k;
+      parents_long = m x.parents_long y.parents_long k;
+      range = r x.range y.range k;
+      coded = Coded-prop (bounds_of net) parents x.coded y.coded k;
+    }

@@ -6,3 +6,4 @@ pub mod Codes
 pub mod Networks
 pub mod Lending
 pub mod Arcs
+pub mod Sweeps

@@ -4,6 +4,7 @@ use Rattle.std.specs.Prelude.{ℕ, ℤ, ◌*◌, ◌%◌, ◌≤◌, ◌<◌, �
 use Rattle.network.specs.Bounds.{Bound}
 use Rattle.network.specs.BoundArrays.{bounds_in}
 use Rattle.passes.specs.declared.arrays.Network.{Network}
+use Rattle.passes.specs.declared.arrays.Place.{Place}
 use Rattle.passes.specs.Solving.{network_fits}
 use Rattle.passes.specs.Places.{bound_at}
 use Rattle.passes.specs.Marks.{Coded}
@@ -16,6 +17,10 @@ bounds_of n = bounds_in n.bounds n.ends.now n.ranges.now
 -- the bound at a place
 abbrev pub bound_of : Network → ℕ → Bound
 bound_of n i = bound_at i n.ends.now n.ranges.now
+
+-- the bound that a place is of
+abbrev pub its_bound : Place → Bound
+its_bound p = bound_of p.net.now p.i
 
 -- the hi of a bound, which is small
 abbrev pub HiOf : Bound → Option ℕ → Type 0

@@ -12,25 +12,16 @@ pub(crate) struct Arc {
 }
 
 impl Arc {
-    ghost use Rattle.std.specs.Prelude.{◌≡◌, ◌<◌, length, ◌+ℤ◌};
+    ghost use Rattle.std.specs.Prelude.{◌≡◌};
     ghost use Rattle.walks.specs.Certificate.{weighted};
     ghost use Rattle.passes.specs.Arcs.{arc_of};
-    ghost use Rattle.passes.specs.Values.{value, InRange};
 
     // Its weight: 8,192 times what it adds, less 1. A sum of weights along a walk is 8,192 times its sum, less the number of its arcs.
     #[tactic(auto, unfolding(walks::specs::Certificate::weighted))]
-    fn weight(self) -> i64
+    pub(crate) fn weight(self) -> i64
         ensures weight { result ≡ (weighted (arc_of self)).adds }
         ensures small { Within 8192000000000001 result }
     {
         8192 * self.adds - 1
-    }
-
-    // The value that comes along it: that where it begins, and its weight.
-    pub(crate) fn value_along(self, values: &[i64]) -> i64
-        requires { (self.from < length values.now) × InRange values.now }
-        ensures { result ≡ value values.now self.from +ℤ (weighted (arc_of self)).adds }
-    {
-        values[self.from] + self.weight()
     }
 }

@@ -1,12 +1,12 @@
 // A network: bounds in the front of two arrays, the events that each goes from and to, and its lo and one more than its hi, 0 where hi is none. The arc
 // with the code c + 1 begins at the event in place c of the one, and its lo or hi is in place c of the other.
 // A number is narrowed by `as` where it fits: a `try_from` would have an error that cannot come.
-ghost use Rattle.std.specs.Prelude.{◌≡◌, true, ◌*◌, ◌≤◌, length};
+ghost use Rattle.std.specs.Prelude.{◌≡◌, true, ◌*◌, ◌≤◌, ◌<◌, length};
 ghost use Rattle.network.specs.BoundArrays.{bounds_in};
 ghost use Rattle.passes.specs.Solving.{bounds_fit};
 
 use crate::arc::Arc;
-use crate::fits::BoundSlices;
+use crate::fits::{BoundSlices, LongSlices};
 
 // As many bounds as may be, each between two of the events, and none too large. The first `own` of them are the plan's own.
 #[derive(Clone, Copy)]
@@ -25,12 +25,10 @@ pub(crate) struct Network<'a> {
 }
 
 impl<'a> Network<'a> {
-    ghost use Rattle.std.specs.Prelude.{◌≡◌, false, ℕ, [], ◌∷◌, MatchOption, ◌+◌, ◌-◌, ◌*◌, ◌/◌, ◌%◌, ◌≤◌, ◌<◌, get_or, ℤ, pos, ◌+ℤ◌, ◌-ℤ◌};
+    ghost use Rattle.std.specs.Prelude.{◌≡◌, false, MatchOption, ◌+◌, ◌-◌, ◌*◌, ◌/◌, ◌%◌, ◌<◌, get_or, ℤ, pos, ◌+ℤ◌, ◌-ℤ◌};
     ghost use Rattle.laws.proofs.Signed.{Within};
     ghost use Rattle.passes.specs.Solving.{network_fits};
-    ghost use Rattle.schedule.specs.Timetable.{forward, ways};
-    ghost use Rattle.passes.specs.Networks.{bound_of, HiOf, IsArc, Reads};
-    ghost use Rattle.passes.specs.Arcs.{arc_of, IsOf};
+    ghost use Rattle.passes.specs.Networks.{IsArc, Reads};
 
     // The network that is handed in, if it is one.
     #[tactic(auto, unfolding(crate::specs::Solving::network_fits))]
@@ -38,6 +36,7 @@ impl<'a> Network<'a> {
         ensures { let g = given.entry in
             MatchOption result (network_fits g.bounds g.events g.ends.now g.ranges.now ≡ false) (Reads g.own g.bounds g.events g.ends.now g.ranges.now) }
     {
+        let long = LongSlices::new(given)?;
         let BoundSlices {
             ends,
             ranges,
@@ -45,10 +44,7 @@ impl<'a> Network<'a> {
             bounds,
             events,
         } = given;
-        if 12_288 < bounds || ends.len() < 2 * bounds || ranges.len() < 2 * bounds {
-            return None;
-        }
-        if events == 0 || 4096 < events || !given.all_fit() {
+        if events == 0 || 4096 < events || !long.all_fit() {
             return None;
         }
         Some(Network {
@@ -57,74 +53,6 @@ impl<'a> Network<'a> {
             own,
             bounds,
             events,
-        })
-    }
-
-    // The event that the bound at place i goes from.
-    pub(crate) fn from(&self, i: usize) -> usize
-        requires { i < self.now.bounds }
-        ensures is { result ≡ (bound_of self.now i).from }
-        ensures below { result < self.now.events }
-    {
-        usize::from(self.ends[2 * i])
-    }
-
-    // The event that it goes to.
-    pub(crate) fn to(&self, i: usize) -> usize
-        requires { i < self.now.bounds }
-        ensures is { result ≡ (bound_of self.now i).to }
-        ensures below { result < self.now.events }
-    {
-        usize::from(self.ends[2 * i + 1])
-    }
-
-    // Its lo.
-    pub(crate) fn lo(&self, i: usize) -> u64
-        requires { i < self.now.bounds }
-        ensures is { result ≡ (bound_of self.now i).lo }
-        ensures small { result ≤ 1000000000000 }
-    {
-        self.ranges[2 * i]
-    }
-
-    // Its hi, if it has one.
-    pub(crate) fn hi(&self, i: usize) -> Option<u64>
-        requires { i < self.now.bounds }
-        ensures { HiOf (bound_of self.now i) result }
-    {
-        self.ranges[2 * i + 1].checked_sub(1)
-    }
-
-    // The arc of the bound at place i followed forward: it adds lo.
-    #[tactic(auto, unfolding(schedule::specs::Timetable::forward))]
-    pub(crate) fn forward(&self, i: usize) -> Arc
-        requires { i < self.now.bounds }
-        ensures is { arc_of result ≡ forward (bound_of self.now i) }
-        ensures of { IsOf self.now (2 * i + 1) result }
-    {
-        Arc {
-            from: self.from(i),
-            to: self.to(i),
-            adds: self.lo(i) as i64,
-            code: (2 * i + 1) as u16,
-        }
-    }
-
-    // The same bound followed backward, where it has a hi: that is subtracted. Where it goes is not read again.
-    #[tactic(auto, unfolding(schedule::specs::Timetable::ways, schedule::specs::Timetable::backward))]
-    pub(crate) fn backward(&self, i: usize, onward: Arc) -> Option<Arc>
-        requires place { i < self.now.bounds }
-        requires is { arc_of onward ≡ forward (bound_of self.now i) }
-        requires of { IsOf self.now (2 * i + 1) onward }
-        ensures { MatchOption result (ways (bound_of self.now i) ≡ forward (bound_of self.now i) ∷ [])
-            (λ a. (ways (bound_of self.now i) ≡ forward (bound_of self.now i) ∷ (arc_of a ∷ [])) × IsOf self.now (2 * i + 2) a) }
-    {
-        let hi = self.hi(i)?;
-        Some(Arc {
-            from: onward.to,
-            to: onward.from,
-            adds: 0 - hi as i64,
-            code: onward.code + 1,
         })
     }
 
@@ -156,5 +84,90 @@ impl<'a> Network<'a> {
             return cost - self.ranges[c] as i64;
         }
         cost + (self.ranges[c] - 1) as i64
+    }
+}
+
+// The first bounds of a network, over which a sweep goes.
+#[derive(Clone, Copy)]
+pub(crate) struct First<'n> {
+    pub(crate) net: &'n Network<'n>,
+    pub(crate) count: usize,
+    ghost there: { count ≤ net.now.bounds },
+}
+
+// A bound of a network, by its place. Each of its four numbers is read by one method, which works out where it stands: an iterator over pairs would not go by place.
+#[derive(Clone, Copy)]
+pub(crate) struct Place<'n> {
+    pub(crate) net: &'n Network<'n>,
+    pub(crate) i: usize,
+    ghost there: { i < net.now.bounds },
+}
+
+impl<'n> Place<'n> {
+    ghost use Rattle.std.specs.Prelude.{◌≡◌, [], ◌∷◌, MatchOption, ◌+◌, ◌*◌, ◌≤◌, ◌<◌};
+    ghost use Rattle.schedule.specs.Timetable.{forward, ways};
+    ghost use Rattle.passes.specs.Networks.{its_bound, HiOf};
+    ghost use Rattle.passes.specs.Arcs.{arc_of, IsOf};
+
+    // The event that the bound goes from.
+    pub(crate) fn from(self) -> usize
+        ensures is { result ≡ (its_bound self.entry).from }
+        ensures below { result < self.entry.net.now.events }
+    {
+        usize::from(self.net.ends[2 * self.i])
+    }
+
+    // The event that it goes to.
+    pub(crate) fn to(self) -> usize
+        ensures is { result ≡ (its_bound self.entry).to }
+        ensures below { result < self.entry.net.now.events }
+    {
+        usize::from(self.net.ends[2 * self.i + 1])
+    }
+
+    // Its lo.
+    pub(crate) fn lo(self) -> u64
+        ensures is { result ≡ (its_bound self.entry).lo }
+        ensures small { result ≤ 1000000000000 }
+    {
+        self.net.ranges[2 * self.i]
+    }
+
+    // Its hi, if it has one.
+    pub(crate) fn hi(self) -> Option<u64>
+        ensures { HiOf (its_bound self.entry) result }
+    {
+        self.net.ranges[2 * self.i + 1].checked_sub(1)
+    }
+
+    // The arc of the bound followed forward: it adds lo.
+    #[tactic(auto, unfolding(schedule::specs::Timetable::forward))]
+    pub(crate) fn forward(self) -> Arc
+        ensures is { arc_of result ≡ forward (its_bound self.entry) }
+        ensures of { IsOf self.entry.net.now (2 * self.entry.i + 1) result }
+    {
+        Arc {
+            from: self.from(),
+            to: self.to(),
+            adds: self.lo() as i64,
+            code: (2 * self.i + 1) as u16,
+        }
+    }
+
+    // The same bound followed backward, where it has a hi: that is subtracted. Where it goes is not read again.
+    #[tactic(auto, unfolding(schedule::specs::Timetable::ways, schedule::specs::Timetable::backward))]
+    pub(crate) fn backward(self, onward: Arc) -> Option<Arc>
+        requires is { arc_of onward ≡ forward (its_bound self) }
+        requires of { IsOf self.net.now (2 * self.i + 1) onward }
+        ensures { MatchOption result (ways (its_bound self.entry) ≡ forward (its_bound self.entry) ∷ [])
+            (λ a. (ways (its_bound self.entry) ≡ forward (its_bound self.entry) ∷ (arc_of a ∷ [])) × IsOf self.entry.net.now (2 * self.entry.i + 2) a) }
+    {
+        let hi = self.hi()?;
+        Some(Arc {
+            from: onward.to,
+            to: onward.from,
+            adds: 0 - hi as i64,
+            code: onward.code + 1,
+        })
     }
 }

@@ -1,26 +1,26 @@
 // The certificate: values are checked against every arc, and then believed, however they were found. They say the times and the number of passes.
 // A number is narrowed by `as` where it fits: a `try_from` would have an error that cannot come.
-ghost use Rattle.std.specs.Prelude.{◌≡◌, false, true, ℕ, [], ◌∷◌, ◌+◌, ◌*◌, ◌≤◌, ◌<◌, length, get_or, pos, negsuc, nat_abs, ◌+ℤ◌, ◌≤ℤ◌, ◌<ℤ◌};
+ghost use Rattle.std.specs.Prelude.{◌≡◌, false, true, ℕ, [], ◌∷◌, ◌≤◌, ◌<◌, length, get_or, pos, negsuc, nat_abs, ◌+ℤ◌, ◌≤ℤ◌, ◌<ℤ◌};
 ghost use mathlib.Core.List.{flat_map};
 ghost use Rattle.laws.proofs.Signed.{Within};
 ghost use Rattle.schedule.specs.Timetable.{ways};
 ghost use Rattle.passes.specs.Values.{value, InRange, Allowed, Marks, Certified, Rounded};
 ghost use Rattle.walks.specs.Certificate.{weighted};
-ghost use Rattle.passes.specs.Networks.{bounds_of, bound_of};
+ghost use Rattle.passes.specs.Networks.{bounds_of, its_bound};
 ghost use Rattle.passes.specs.Arcs.{arc_of};
 
 use crate::arc::Arc;
-use crate::arrays::Network;
+use crate::arrays::Place;
+use crate::values::Values;
 
 // Whether the values allow an arc; where it gives the event where it ends its value exactly, that is marked.
-fn check_arc(values: &[i64], marks: &mut [bool], arc: Arc) -> bool
-    requires inside { (arc.from < length values.now) × (arc.to < length values.now) × (arc.to < length marks.old) }
-    requires in_range { InRange values.now }
-    ensures allowed { result ≡ true → (value values.now arc.from +ℤ (weighted (arc_of arc)).adds) ≤ℤ value values.now arc.to }
-    ensures marked { Marks (arc_of arc ∷ []) values.now marks.old marks.new }
+fn check_arc(values: Values, marks: &mut [bool], arc: Arc) -> bool
+    requires { (arc.from < values.net.now.events) × (arc.to < values.net.now.events) × (arc.to < length marks.old) }
+    ensures allowed { let v = values.entry.all.now in result ≡ true → (value v arc.from +ℤ (weighted (arc_of arc)).adds) ≤ℤ value v arc.to }
+    ensures marked { Marks (arc_of arc ∷ []) values.entry.all.now marks.old marks.new }
 {
-    let sum = arc.value_along(values);
-    let at = values[arc.to];
+    let sum = values.along(arc);
+    let at = values.all[arc.to];
     if at < sum {
         return false;
     }
@@ -31,32 +31,32 @@ fn check_arc(values: &[i64], marks: &mut [bool], arc: Arc) -> bool
     true
 }
 
-// The same for the bound at place i, both ways.
-fn check_bound(net: &Network, i: usize, values: &[i64], marks: &mut [bool]) -> bool
-    requires place { i < net.now.bounds }
-    requires values { (length values.now ≡ net.now.events) × (length marks.old ≡ net.now.events) × InRange values.now }
-    ensures allowed { result ≡ true → Allowed (ways (bound_of net.now i)) values.now }
-    ensures marked { Marks (ways (bound_of net.now i)) values.now marks.old marks.new }
+// The same for a bound, both ways.
+fn check_bound(bound: Place, values: Values, marks: &mut [bool]) -> bool
+    requires { (values.net.now ≡ bound.net.now) × (length marks.old ≡ bound.net.now.events) }
+    ensures allowed { result ≡ true → Allowed (ways (its_bound bound.entry)) values.entry.all.now }
+    ensures marked { Marks (ways (its_bound bound.entry)) values.entry.all.now marks.old marks.new }
 {
-    let arc = net.forward(i);
+    let arc = bound.forward();
     if !check_arc(values, marks, arc) {
         return false;
     }
-    match net.backward(i, arc) {
+    match bound.backward(arc) {
         None => true,
         Some(back) => check_arc(values, marks, back),
     }
 }
 
 // Whether the values allow every bound; the events to which one is exact are marked.
-fn check_bounds(net: &Network, values: &[i64], marks: &mut [bool]) -> bool
-    requires { (length values.now ≡ net.now.events) × (length marks.old ≡ net.now.events) × InRange values.now }
-    ensures allowed { result ≡ true → Allowed (flat_map ways (bounds_of net.now)) values.now }
-    ensures marked { Marks (flat_map ways (bounds_of net.now)) values.now marks.old marks.new }
+fn check_bounds(values: Values, marks: &mut [bool]) -> bool
+    requires { length marks.old ≡ values.net.now.events }
+    ensures allowed { result ≡ true → Allowed (flat_map ways (bounds_of values.entry.net.now)) values.entry.all.now }
+    ensures marked { Marks (flat_map ways (bounds_of values.entry.net.now)) values.entry.all.now marks.old marks.new }
 {
     // a `for`: of a closure that changes the marks an `all` says nothing
+    let net = values.net;
     for i in 0..net.bounds {
-        if !check_bound(net, i, values, marks) {
+        if !check_bound(Place { net, i }, values, marks) {
             return false;
         }
     }
@@ -82,25 +82,23 @@ fn check_events(values: &[i64], marks: &[bool]) -> bool
 }
 
 // Whether the values of at most N events are a certificate. No event is marked yet.
-fn check<const N: usize>(net: &Network, values: &[i64]) -> bool
-    requires room { (net.now.events ≤ N) × (N ≤ 4096) }
-    requires values { (length values.now ≡ net.now.events) × InRange values.now }
-    ensures { result ≡ true → Certified (flat_map ways (bounds_of net.now)) values.now }
+fn check<const N: usize>(values: Values) -> bool
+    requires { (values.net.now.events ≤ N) × (N ≤ 4096) }
+    ensures { result ≡ true → Certified (flat_map ways (bounds_of values.entry.net.now)) values.entry.all.now }
 {
     let mut marks = [false; N];
-    let marks = &mut marks[..net.events];
-    check_bounds(net, values, marks) && check_events(values, marks)
+    let marks = &mut marks[..values.net.events];
+    check_bounds(values, marks) && check_events(values.all, marks)
 }
 
-// Whether values are a certificate. Few marks take less time to clear.
-pub(crate) fn is_certificate(net: &Network, values: &[i64]) -> bool
-    requires { (length values.now ≡ net.now.events) × InRange values.now }
-    ensures { result ≡ true → Certified (flat_map ways (bounds_of net.now)) values.now }
+// Whether values are a certificate. Few marks take less time to clear; a const parameter is a constant, so that each size is an arm.
+pub(crate) fn is_certificate(values: Values) -> bool
+    ensures { result ≡ true → Certified (flat_map ways (bounds_of values.entry.net.now)) values.entry.all.now }
 {
-    if net.events <= 256 {
-        return check::<256>(net, values);
+    if values.net.events <= 256 {
+        return check::<256>(values);
     }
-    check::<4096>(net, values)
+    check::<4096>(values)
 }
 
 // A value, and as much more as the next number that 8,192 divides may be away.

@@ -1,4 +1,5 @@
-// The slices that a caller lends for what is found: the times, and the numbers and directions of a chain.
+// The slices that a caller lends for what is found: the times, and the numbers and directions of a chain, as the C interface has them. `Drop` alone is derived, as
+// `&mut` slices can't be copied or compared.
 ghost use Rattle.std.specs.Prelude.{◌≡◌};
 ghost use Rattle.schedule.specs.Lent.{long_enough};
 ghost use Rattle.passes.specs.Lending.{lent_of};

@@ -6,29 +6,36 @@ mod arc;
 mod arrays;
 mod certificate;
 mod fits;
+mod left;
 mod lent;
 mod links;
 mod looping;
 mod parents;
 mod passing;
+mod room;
+mod sums;
 mod sweeping;
+mod values;
 
-ghost use Rattle.std.specs.Prelude.{◌≡◌, ℕ, MatchOption, IfSome, ◌*◌, ◌≤◌, ◌<◌, length, replicate, true, List, map};
+ghost use Rattle.std.specs.Prelude.{◌≡◌, IfSome, ◌*◌, ◌≤◌, length, map};
 ghost use mathlib.Core.List.{flat_map};
 ghost use Rattle.words.specs.Words.{words, written};
-ghost use Rattle.walks.specs.Passes.{at_start, settled};
+ghost use Rattle.walks.specs.Passes.{settled};
 ghost use Rattle.schedule.specs.Timetable.{time, ways};
-ghost use Rattle.schedule.specs.Lent.{long_enough};
 ghost use Rattle.passes.specs.Solving.{Solves, Searched, Solving};
-ghost use Rattle.passes.specs.Marks.{sum_at, sums_in, Coded, CycleFound, Finds};
-ghost use Rattle.passes.specs.Values.{InRange};
-ghost use Rattle.passes.specs.Networks.{bounds_of, Kept};
-ghost use Rattle.passes.specs.Lending.{lent_of, SameSlices};
+ghost use Rattle.passes.specs.Marks.{sum_at, sums_in, CycleFound, Finds};
+ghost use Rattle.passes.specs.Networks.{bounds_of};
+ghost use Rattle.passes.specs.Sweeps.{FindsIn};
+ghost use Rattle.passes.specs.Lending.{lent_of, room_of, SameSlices, SameRoom};
 
-use arrays::Network;
+use arrays::{Network, Place};
 pub use fits::BoundSlices;
+use left::Left;
 pub use lent::Lent;
-use parents::Parents;
+use parents::{Event, Parents};
+use room::Room;
+use sweeping::Sweeping;
+use values::Values;
 
 // A closed chain of bounds found: its length and its cost.
 #[derive(Clone, Copy, Debug, PartialEq, Eq)]
@@ -69,101 +76,76 @@ fn write_times(sums: &[i64], times: &mut [u8])
 }
 
 // Writes what is found.
-fn write_found(
-    net: &Network,
-    found: Found,
-    sums: &[i64],
-    parents: &[u16],
-    lent: &mut Lent,
-) -> Solved
-    requires found { Finds (bounds_of net.now) net.now.events sums.now parents.now found }
-    requires long { length sums.now ≡ net.now.events }
-    requires room { long_enough (lent_of lent.old) ≡ true }
-    ensures solves { Solves net.now.own net.now.events (bounds_of net.now) (lent_of lent.old) result (lent_of lent.new) }
-    ensures same { SameSlices lent.old lent.new }
+fn write_found(left: Left, found: Found, room: &mut Room) -> Solved
+    requires { Finds (bounds_of left.net.now) left.net.now.events left.sums.now left.parents.now found }
+    ensures solves { let net = left.entry.net.now in Solves net.own net.events (bounds_of net) (room_of room.old) result (room_of room.new) }
+    ensures same { SameRoom room.old room.new }
 {
     match found {
         Found::Settled(passes) => {
-            write_times(sums, lent.times);
+            write_times(left.sums, room.times);
             Solved::Times { passes }
         }
         Found::Looped(at) => Solved::Cycle(links::write_chain(
             &Parents {
-                net,
-                codes: parents,
+                net: left.net,
+                codes: left.parents,
             },
             at,
-            lent,
+            room,
         )),
     }
 }
 
-// The passes, whatever `old` has: the sums as they are at first come from `new`.
-fn from_first(
-    net: &Network,
-    old: &mut [i64],
-    new: &mut [i64],
-    parents: &mut [u16],
-    lent: &mut Lent,
-) -> Solved
-    requires long { (length old.old ≡ net.now.events) × (length new.old ≡ net.now.events) }
-    requires value { (sums_in new.old ≡ at_start net.now.events) × (parents.old ≡ replicate net.now.events 0) }
-    requires room { long_enough (lent_of lent.old) ≡ true }
-    ensures solves { Solves net.now.own net.now.events (bounds_of net.now) (lent_of lent.old) result (lent_of lent.new) }
-    ensures same { SameSlices lent.old lent.new }
-{
-    old.copy_from_slice(new);
-    let found = passing::run(net, old, new, parents);
-    write_found(net, found, old, parents, lent)
-}
-
-// The same, with working memory of its own for all but the sums.
-fn by_passes(net: &Network, sums: &mut [i64], lent: &mut Lent) -> Solved
-    requires long { length sums.old ≡ net.now.events }
-    requires room { long_enough (lent_of lent.old) ≡ true }
-    ensures solves { Solves net.now.own net.now.events (bounds_of net.now) (lent_of lent.old) result (lent_of lent.new) }
-    ensures same { SameSlices lent.old lent.new }
+// The passes, whatever `sums` has, with working memory of their own for all else.
+fn by_passes(net: &Network, sums: &mut [i64], room: &mut Room) -> Solved
+    requires { length sums.old ≡ net.now.events }
+    ensures solves { Solves net.now.own net.now.events (bounds_of net.now) (room_of room.old) result (room_of room.new) }
+    ensures same { SameRoom room.old room.new }
 {
     let mut first = [passing::LOW; 4096];
     let mut parents = [0u16; 4096];
     first[0] = 0;
-    let n = net.events;
-    from_first(net, sums, &mut first[..n], &mut parents[..n], lent)
+    let first = &mut first[..net.events];
+    let parents = &mut parents[..net.events];
+    sums.copy_from_slice(first);
+    let found = passing::run(net, sums, first, parents);
+    let left = Left {
+        net: &*net,
+        sums,
+        parents,
+    };
+    write_found(left, found, room)
 }
 
 // Over how many bounds the first sweep goes: over the plan's own where what a log adds begins with [0, none], as before any report, since such bounds
 // raise nothing that travel does not; else over all.
-fn first_count(net: &Network) -> usize
-    ensures { result ≤ net.now.bounds }
-{
-    if net.own < net.bounds && net.lo(net.own) == 0 && net.hi(net.own).is_none() {
-        return net.own;
+fn first_count(net: &Network) -> usize {
+    if net.own < net.bounds {
+        let added = Place {
+            net: &*net,
+            i: net.own,
+        };
+        if added.lo() == 0 && added.hi().is_none() {
+            return net.own;
+        }
     }
     net.bounds
 }
 
-// Sweeps over the first `count` of the bounds until one finds each of them allowed, 1,024 at most. After every sixteen a cycle is looked for behind an
-// event that the last may have raised; an event on one, if one was found.
-fn sweep_until(
-    net: &Network,
-    count: usize,
-    values: &mut [i64],
-    parents: &mut [u16],
-) -> Option<usize>
-    requires count { count ≤ net.now.bounds }
-    requires kept { Kept net.now values.old parents.old }
-    ensures cycle { IfSome result (CycleFound (bounds_of net.now) parents.new) }
-    ensures kept { Kept net.now values.new parents.new }
+// Sweeps over the first `count` bounds until one finds each of them allowed, 1,024 at most. After every sixteen a cycle is looked for behind an event that the
+// last may have raised; an event on one, if one was found.
+fn sweep_until(sweeping: &mut Sweeping, count: usize) -> Option<usize>
+    ensures cycle { IfSome result (CycleFound (bounds_of sweeping.new.net.now) sweeping.new.parents.now) }
+    ensures same { sweeping.new.net.now ≡ sweeping.old.net.now }
 {
     for _k in 0..64 {
-        let event = sweeping::sweeps(net, count, 16, values, parents)?;
-        let at = looping::find_cycle(
-            &Parents {
-                net: &*net,
-                codes: parents,
-            },
-            event,
-        );
+        let event = sweeping::sweeps(sweeping, count, 16)?;
+        let codes = sweeping.read_parents();
+        let at = looping::find_cycle(Event {
+            parents: &codes,
+            v: event,
+        });
         if at.is_some() {
             return at;
         }
@@ -171,114 +153,114 @@ fn sweep_until(
     None
 }
 
-// How many passes are believed of values, which become times: where they are a certificate, whatever the parents are; else they stay as they are.
-fn believe(net: &Network, values: &mut [i64]) -> Option<usize>
-    requires { (length values.old ≡ net.now.events) × InRange values.old }
-    ensures { MatchOption result (values.new ≡ values.old)
-        (λ k. settled (flat_map ways (bounds_of net.now)) net.now.events ≡ Some (record { passes = k; sums = sums_in values.new })) }
+// How many passes are believed of values, which become times: where they are a certificate, whatever the parents are.
+fn believe(sweeping: &mut Sweeping) -> Option<usize>
+    ensures settled { let net = sweeping.new.net.now in
+        IfSome result (λ k. settled (flat_map ways (bounds_of net)) net.events ≡ Some (record { passes = k; sums = sums_in sweeping.new.values.now })) }
+    ensures same { sweeping.new.net.now ≡ sweeping.old.net.now }
 {
-    if !certificate::is_certificate(net, values) {
+    if !certificate::is_certificate(sweeping.read_values()) {
         return None;
     }
-    Some(certificate::round(values))
+    Some(certificate::round(sweeping.values))
 }
 
-// Sweeps over the first `count` of the bounds, and what comes of them: a cycle, or what is believed of the values that they leave.
-fn sweep_first(
-    net: &Network,
-    count: usize,
-    values: &mut [i64],
-    parents: &mut [u16],
-) -> Option<Found>
-    requires count { count ≤ net.now.bounds }
-    requires kept { Kept net.now values.old parents.old }
-    ensures { MatchOption result (Kept net.now values.new parents.new) (Finds (bounds_of net.now) net.now.events values.new parents.new) }
+// Sweeps over the first `count` bounds, and what comes of them: a cycle, or what is believed of the values that they leave.
+fn sweep_first(sweeping: &mut Sweeping, count: usize) -> Option<Found>
+    ensures found { IfSome result (FindsIn sweeping.new) }
+    ensures same { sweeping.new.net.now ≡ sweeping.old.net.now }
 {
-    if let Some(at) = sweep_until(net, count, values, parents) {
+    if let Some(at) = sweep_until(sweeping, count) {
         return Some(Found::Looped(at));
     }
-    let passes = believe(net, values)?;
+    let passes = believe(sweeping)?;
     Some(Found::Settled(passes))
 }
 
 // Sweeps over the plan's own bounds, since what a log adds leads from the start alone, and what comes of them; else over all.
-fn sweep_on(net: &Network, values: &mut [i64], parents: &mut [u16]) -> Option<Found>
-    requires { Kept net.now values.old parents.old }
-    ensures { MatchOption result (Kept net.now values.new parents.new) (Finds (bounds_of net.now) net.now.events values.new parents.new) }
+fn sweep_on(sweeping: &mut Sweeping) -> Option<Found>
+    ensures found { IfSome result (FindsIn sweeping.new) }
+    ensures same { sweeping.new.net.now ≡ sweeping.old.net.now }
 {
-    if let Some(found) = sweep_first(net, net.own.min(net.bounds), values, parents) {
+    let net = sweeping.net;
+    if let Some(found) = sweep_first(sweeping, net.own) {
         return Some(found);
     }
-    sweep_first(net, net.bounds, values, parents)
+    sweep_first(sweeping, net.bounds)
 }
 
 // The first sweeps: one, and where there are more of the plan's own bounds than events, as where carts meet, another over these.
-fn first_sweeps(net: &Network, values: &mut [i64], parents: &mut [u16])
-    requires { Kept net.now values.old parents.old }
-    ensures { Kept net.now values.new parents.new }
+fn first_sweeps(sweeping: &mut Sweeping)
+    ensures { sweeping.new.net.now ≡ sweeping.old.net.now }
 {
-    sweeping::sweeps(net, first_count(net), 1, values, parents);
+    let net = sweeping.net;
+    sweeping::sweeps(sweeping, first_count(net), 1);
     if net.events < net.own {
-        sweeping::sweeps(net, net.own.min(net.bounds), 1, values, parents);
+        sweeping::sweeps(sweeping, net.own, 1);
     }
 }
 
 // The fast way: values found by sweeps, and believed where they are a certificate; or a cycle, believed where it is one. What comes of the first sweeps is
 // checked at once where there are at most 256 events, or hardly more of the plan's own bounds than events, as for a cart alone: they should be enough, and
 // a check that fails there costs little. Else sweeps go on.
-fn quick(net: &Network, values: &mut [i64], parents: &mut [u16]) -> Option<Found>
-    requires { Kept net.now values.old parents.old }
-    ensures { MatchOption result (Kept net.now values.new parents.new) (Finds (bounds_of net.now) net.now.events values.new parents.new) }
+fn quick(sweeping: &mut Sweeping) -> Option<Found>
+    ensures found { IfSome result (FindsIn sweeping.new) }
+    ensures same { sweeping.new.net.now ≡ sweeping.old.net.now }
 {
-    first_sweeps(net, values, parents);
+    first_sweeps(sweeping);
+    let net = sweeping.net;
     if net.events <= 256 || net.own <= net.events {
-        if let Some(passes) = believe(net, values) {
+        if let Some(passes) = believe(sweeping) {
             return Some(Found::Settled(passes));
         }
     }
-    sweep_on(net, values, parents)
+    sweep_on(sweeping)
 }
 
 // The fast way, and what comes of it is written: where nothing does, nothing is.
-fn search(net: &Network, values: &mut [i64], parents: &mut [u16], lent: &mut Lent) -> Option<Solved>
-    requires kept { Kept net.now values.old parents.old }
-    requires room { long_enough (lent_of lent.old) ≡ true }
-    ensures searched { Searched net.now.own net.now.events (bounds_of net.now) (lent_of lent.old) result (lent_of lent.new) }
-    ensures same { SameSlices lent.old lent.new }
+fn search(sweeping: &mut Sweeping, room: &mut Room) -> Option<Solved>
+    ensures searched { let net = sweeping.old.net.now in Searched net.own net.events (bounds_of net) (room_of room.old) result (room_of room.new) }
+    ensures same_net { sweeping.new.net.now ≡ sweeping.old.net.now }
+    ensures same { SameRoom room.old room.new }
 {
-    let found = quick(net, values, parents)?;
-    Some(write_found(net, found, values, parents, lent))
+    let found = quick(sweeping)?;
+    Some(write_found(sweeping.left(), found, room))
 }
 
 // The fast way, and where nothing comes of it the passes, with working memory for at most N events: the less, the less time it takes to fill. The passes'
 // own memory is not part of that: hardly a plan comes to them.
-fn find_among<const N: usize>(net: &Network, lent: &mut Lent) -> Solved
-    requires few { (net.now.events ≤ N) × (N ≤ 4096) }
-    requires room { long_enough (lent_of lent.old) ≡ true }
-    ensures solves { Solves net.now.own net.now.events (bounds_of net.now) (lent_of lent.old) result (lent_of lent.new) }
-    ensures same { SameSlices lent.old lent.new }
+fn find_among<const N: usize>(net: &Network, room: &mut Room) -> Solved
+    requires { (net.now.events ≤ N) × (N ≤ 4096) }
+    ensures solves { Solves net.now.own net.now.events (bounds_of net.now) (room_of room.old) result (room_of room.new) }
+    ensures same { SameRoom room.old room.new }
 {
     let mut values = [sweeping::LEAST; N];
     let mut parents = [0u16; N];
     values[0] = 0;
-    let n = net.events;
-    if let Some(solved) = search(net, &mut values[..n], &mut parents[..n], lent) {
+    let values = &mut values[..net.events];
+    let parents = &mut parents[..net.events];
+    let mut sweeping = Sweeping {
+        net: &*net,
+        values,
+        parents,
+    };
+    if let Some(solved) = search(&mut sweeping, room) {
         return solved;
     }
-    by_passes(net, &mut values[..n], lent)
+    let Sweeping { values, .. } = sweeping;
+    by_passes(net, values, room)
 }
 
 // The same, with as much memory as the number of events asks for.
-fn find(net: &Network, lent: &mut Lent) -> Solved
-    requires { long_enough (lent_of lent.old) ≡ true }
-    ensures solves { Solves net.now.own net.now.events (bounds_of net.now) (lent_of lent.old) result (lent_of lent.new) }
-    ensures same { SameSlices lent.old lent.new }
+fn find(net: &Network, room: &mut Room) -> Solved
+    ensures solves { Solves net.now.own net.now.events (bounds_of net.now) (room_of room.old) result (room_of room.new) }
+    ensures same { SameRoom room.old room.new }
 {
     match net.events {
-        0..=64 => find_among::<64>(net, lent),
-        65..=256 => find_among::<256>(net, lent),
-        257..=1024 => find_among::<1024>(net, lent),
-        _ => find_among::<4096>(net, lent),
+        0..=64 => find_among::<64>(net, room),
+        65..=256 => find_among::<256>(net, room),
+        257..=1024 => find_among::<1024>(net, room),
+        _ => find_among::<4096>(net, room),
     }
 }
 
@@ -292,5 +274,10 @@ pub fn solve(given: BoundSlices, lent: &mut Lent) -> Option<Solved>
     if !lent.is_long_enough() {
         return None;
     }
-    Some(find(&net, lent))
+    let mut room = Room {
+        times: &mut *lent.times,
+        chain_bounds: &mut *lent.chain_bounds,
+        chain_directions: &mut *lent.chain_directions,
+    };
+    Some(find(&net, &mut room))
 }

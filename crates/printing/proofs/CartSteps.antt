@@ -10,8 +10,8 @@ use Rattle.limits.specs.Counts.{total, moves}
 use Rattle.limits.proofs.CountSteps.{paths_none, paths_next, row_fits, moves_next, all_moves_none}
 use Rattle.limits.proofs.LimitSteps.{path_events}
 use Rattle.printing.specs.declared.events.Lines.{Lines}
-use Rattle.printing.specs.Lines.{text_at, Fits, Prints, path_lines, paths_lines}
-use Rattle.printing.proofs.Puts.{Printing, printing_more, printing_room, printing_all}
+use Rattle.printing.specs.Lines.{text_at, Prints, path_lines, paths_lines}
+use Rattle.printing.proofs.Puts.{Printing, printing_more, printing_all}
 
 module _ (s : List ℕ) (n w : ℕ) where
   -- the i-th path, as the code cuts it out, and the paths from it on
@@ -49,10 +49,6 @@ module _ (s : List ℕ) (n w : ℕ) where
             let long : length (path_at i) ≡ w = ap (λ q. length q) (path_is i) ∙ length-take-le w (drop (i * w) s) (omega (arith, length-drop (i * w) s, row_fits n i w h)) in
             ap (λ ps. paths_lines (i + 1) ps time e) (paths_next n i w s h ∙ ap (λ q. q ∷ paths_from (i + 1)) (sym (path_is i)))
             ∙ ap (λ x. path_lines (i + 1) (path_at i) time e ++ paths_lines (i + 1 + 1) (paths_from (i + 1)) time (e + x)) (omega (arith, path_events (path_at i) (omega arith)))
-
-        -- there is room for its lines
-        pub path_room : Fits l (paths_lines 1 (paths_in n w s)) → Fits m (path_lines (i + 1) (path_at i))
-        path_room = printing_room o (path_lines (i + 1) (path_at i)) _ (lines_next _ _)
 
         -- they are put
         pub carts_next : {k : Lines} → Prints m (path_lines (i + 1) (path_at i)) (3 * moves (path_at i) + 1) k → OnCarts l k (i + 1)

@@ -6,15 +6,23 @@ use mathlib.Core.Path.{◌≡◌, refl, ap, sym, ◌∙◌, subst}
 use mathlib.Core.Bool.{Bool, true, false}
 use mathlib.Core.List.{List, []}
 use lib.Dec.{leb}
-use lib.ListN.{length, drop, length-append}
+use lib.ListN.{length, drop, get_or, length-append}
 use borrow.Author.Tests.{le-leb, lt-leb}
 use Rattle.words.specs.Words.{written}
 use Rattle.floor.specs.Refusal.{Judged, reason_number, table_number}
 use Rattle.floor.specs.Plan.{Plan}
 use Rattle.floor.specs.Tables.{Tables}
 use Rattle.network.specs.Judge.{judge}
+use Rattle.network.specs.Events.{event_count}
+use Rattle.network.proofs.Judged.{judged}
+use Rattle.rfc4180.specs.Text.{bytes}
+use Rattle.floor.specs.declared.Refusal.{Refusal}
+use Rattle.printing.proofs.Digits.{field_most, ending_most}
+use Rattle.printing.proofs.Texts.{refusal_whole}
+use Rattle.printing.proofs.Timings.{none_text}
+use Rattle.printing.proofs.EventTexts.{text_most}
 use Rattle.schedule.specs.Book.{first_book, replay}
-use Rattle.schedule.specs.Timetable.{timetable}
+use Rattle.schedule.specs.Timetable.{Timetable, timetable}
 use Rattle.slice.specs.PlanSlice.{plan_slice, Held, held}
 use Rattle.slice.proofs.Slice.{held_slice}
 use Rattle.tables.specs.declared.ReadError.{ReadError as LoadError}
@@ -37,6 +45,36 @@ pub print_whole : (ts : Tables) (out : List ℕ) → 348_245 ≤ length out → 
 unfolding print
 print_whole ts out h =
     ap (λ (b : Bool). elim b as (λ _. Printing) [ false ↦ record { answer = None; out = out } | true ↦ record { answer = Some (length (output ts)); out = written (output ts) out } ]) (le-leb 348_245 (length out) h)
+
+-- ---- how long an output is
+
+-- a refusal of a table
+refused_most : (r : Refusal) → length (refusal_text (reason_number r.reason) (table_number r.table) r.row) ≤ output_need
+unfolding bytes
+refused_most r =
+    let n : ℕ = reason_number r.reason in
+    let t : ℕ = table_number r.table in
+    omega (
+      arith,
+      ap length (refusal_whole n r.table r.row),
+      length-append {A = ℕ},
+      field_most n,
+      field_most t,
+      ending_most r.row,
+    )
+
+-- any output
+pub output_most : (ts : Tables) → length (output ts) ≤ output_need
+unfolding output judged_output timed_output bytes
+output_most ts = by (judge ts) refl
+  where
+    timed_most : (p : Plan) → event_count p ≤ 4096 → (o : Option Timetable) → length (timed_output p o) ≤ output_need
+    timed_most p few None = omega (arith, ap length none_text)
+    timed_most p few (Some t) = text_most (λ (e : ℕ). get_or t.times e 0) p few
+
+    by : (j : Judged Plan) → judge ts ≡ j → length (judged_output j) ≤ output_need
+    by (Err r) e = refused_most r
+    by (Ok p) e = timed_most p (judged ts p e).1 (timetable p (first_book p))
 
 -- ---- by what a load says
 

@@ -7,9 +7,10 @@ use mathlib.Core.List.{List, [], ◌∷◌, ◌++◌}
 use lib.ListN.{length, take, drop, get_or, length-drop}
 use borrow.Author.Tests.{eq-eqb, ne_eqb}
 use Rattle.limits.specs.Counts.{moves_after, moves}
+use Rattle.bounds.proofs.Moves.{Stepped}
 use Rattle.printing.specs.declared.events.Lines.{Lines}
-use Rattle.printing.specs.Lines.{ByEvent, Fits, Prints, point_line, move_lines, lines_after, path_lines}
-use Rattle.printing.proofs.Puts.{Printing, printing_none, printing_same, printing_more, printing_room, printing_all}
+use Rattle.printing.specs.Lines.{ByEvent, Prints, point_line, move_lines, lines_after, path_lines}
+use Rattle.printing.proofs.Puts.{Printing, printing_none, printing_same, printing_more, printing_all}
 
 -- the lines after the first of these steps
 unfoldable pub later_lines : ℕ → List ℕ → ByEvent
@@ -73,17 +74,7 @@ pub record OnPath (l : Lines) (j : ℕ) (p : List ℕ) (m : Lines) (left : List 
   pub some : 1 ≤ length left
   pub printing : Printing l (path_lines j p) (3 * moves p + 1) m (later_lines j left) (3 * moves left)
 
--- two steps next to each other, and those left then
-pub record Stepped (left step after : List ℕ) : Type 0 where
-  pub two : 2 ≤ length left
-  pub cells : step ≡ take 2 left
-  pub less : after ≡ drop 1 left
-
--- there is room for the first line
-pub first_room : (l : Lines) (j : ℕ) (p : List ℕ) → 1 ≤ length p → Fits l (path_lines j p) → Fits l (point_line j (get_or p 0 0))
-first_room l j p h = printing_room (printing_none l (path_lines j p) 0) (point_line j (get_or p 0 0)) _ (path_first j _ _ p h)
-
--- it is put
+-- the first line is put
 pub path_begins : (l : Lines) (j : ℕ) (p : List ℕ) (m : Lines) → 1 ≤ length p → Prints l (point_line j (get_or p 0 0)) 1 m → OnPath l j p m p
 path_begins l j p m h q =
     record {
@@ -112,12 +103,9 @@ module _ {l : Lines} {j : ℕ} {p : List ℕ} {m : Lines} {left : List ℕ} (o :
       its_moves : moves left ≡ 1 + moves after
       its_moves = moves_move left s.two two_cells ∙ ap (λ x. 1 + moves x) (sym s.less)
 
-      -- a move: its events are no more than may be, there is room for its lines, and they are put
+      -- a move: its events are no more than may be, and its lines are put
       pub path_few : l.event + 3 * moves p < 4096 → m.event + 3 ≤ 4096
       path_few h = omega (arith, o.printing.event, its_moves)
-
-      pub path_room : Fits l (path_lines j p) → Fits m (move_lines j (get_or step 0 0) (get_or step 1 0))
-      path_room = printing_room o.printing (move_lines j (get_or step 0 0) (get_or step 1 0)) _ (its_lines _ _)
 
       pub path_moves : {n : Lines} → Prints m (move_lines j (get_or step 0 0) (get_or step 1 0)) 3 n → OnPath l j p n after
       path_moves r =

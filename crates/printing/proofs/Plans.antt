@@ -27,13 +27,12 @@ use Rattle.slice.specs.HeldPlan.{Holds}
 use Rattle.slice.proofs.HeldPlan.{accepted_there, read_there, sound, paths_there, some_steps}
 use Rattle.printing.specs.Text.{times_text}
 use Rattle.printing.specs.Lines.{lines_text}
-use Rattle.printing.proofs.EventTexts.{text_is, text_most}
+use Rattle.printing.proofs.EventTexts.{text_is}
 
--- paths in an array, those of the plan that the slice s holds: they are there, their events are no more than may be, and their text is the plan's, and not too long
+-- paths in an array, those of the plan that the slice s holds: they are there, their events are no more than may be, and their text is the plan's
 pub record HeldPaths (s : List ℕ) (x : Paths) : Type 0 where
   pub cells : (1 ≤ x.steps) × (x.carts * x.steps ≤ length x.cells.now)
   pub few : 2 + x.carts + 3 * moves_of x ≤ 4096
-  pub short : (time : ℕ → ℕ) → length (lines_text time (1 + (x.carts + 3 * moves_of x)) (paths_of x)) ≤ 348_245
   pub text : (time : ℕ → ℕ) (g : Held) → held s ≡ Some g → lines_text time (1 + (x.carts + 3 * moves_of x)) (paths_of x) ≡ times_text g.plan time
 
 module _ (s : List ℕ) (a : Arrays) (n : Holding) (h : Holds s a n) (x : Paths) (ec : x.cells.now ≡ a.cells) (en : x.carts ≡ n.size.carts) (ew : x.steps ≡ n.size.steps) where
@@ -90,6 +89,5 @@ module _ (s : List ℕ) (a : Arrays) (n : Holding) (h : Holds s a n) (x : Paths)
       record {
         cells = array_there;
         few = events_few;
-        short = λ time. omega (arith, ap length (same_text time), text_most time plan (omega (arith, counted, events_few)));
         text = λ time g e. same_text time ∙ ap (λ (y : Held). times_text y.plan time) (some-injective _ _ (sym h.of_slice ∙ e));
       }

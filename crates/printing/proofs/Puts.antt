@@ -1,16 +1,21 @@
 -- Texts put into a slice, one behind the other. Assumes nothing.
-use Prim.Native.Nat.{ℕ, ◌+◌}
+use Prim.Native.Nat.{ℕ, ◌+◌, ◌-◌, ◌≤◌, min}
+use native.Mathlib.Nat.{min-eq_left, min-eq_right, min-le_left, min-le_right}
+use mathlib.Core.Logic.{inl, inr}
 use native.Mathlib.Omega.{arith}
 use mathlib.Core.Path.{◌≡◌, refl, ap, ap₂, sym, ◌∙◌, subst}
 use mathlib.Core.List.{List, [], ◌++◌, append_assoc, append-nil}
 use lib.ListN.{length, take, drop, length-append}
 use lib.Seq.{sets, sets-eq, length-sets, drop-drop}
 use borrow.Rule.Slice.PartMut.{put_mid}
-use Rattle.network.proofs.BoundStores.{sets_append}
+use Rattle.laws.proofs.Tests.{below_or_not}
+use Rattle.network.proofs.BoundStores.{sets_append, sets_past}
+use Rattle.std.proofs.lemmas.List.{length-take-le, take_all}
+use lib.ListN.{take-append-drop}
 use Rattle.words.specs.Words.{word_at}
 use Rattle.printing.specs.declared.lines.Out.{Out}
 use Rattle.printing.specs.declared.events.Lines.{Lines}
-use Rattle.printing.specs.Lines.{HasRoom, Puts, ByEvent, text_at, Fits, Prints}
+use Rattle.printing.specs.Lines.{Puts, ByEvent, text_at, Prints}
 
 module _ {o p : Out} where
   -- the same text by another name
@@ -24,22 +29,56 @@ module _ {o p : Out} where
   -- a text behind another
   pub puts_then : {q : Out} {a b : List ℕ} → Puts o a p → Puts p b q → Puts o (a ++ b) q
   puts_then {q} {a} {b} h k =
-      record {
-        same = k.same ∙ h.same;
-        stored = k.stored ∙ ap₂ (λ x n. sets x n b) h.stored h.behind ∙ sym (sets_append a b o.bytes.now o.at);
-        behind = omega (arith, length-append a b);
-        long = k.long ∙ h.long;
-      }
+      let s : List ℕ = o.bytes.now in
+      let all : length (a ++ b) ≡ length a + length b = length-append a b in
+      let same : q.bytes.now ≡ sets (sets s o.at a) p.at b = k.stored ∙ ap (λ x. sets x p.at b) h.stored in
+      let long : length (sets s o.at a) ≡ length s = length-sets s o.at a in
+      let (stored, behind) = elim (below_or_not (length s) (o.at + length a)) as (λ _. (q.bytes.now ≡ sets s o.at (a ++ b)) × (q.at ≡ min (o.at + length (a ++ b)) (length s))) [
+        | inl l ↦
+            let full : p.at ≡ length s = h.behind ∙ min-eq_right (omega arith) in (
+              same ∙ sets_past b (sets s o.at a) p.at (omega (arith, full, long)) ∙ sym (sets_past b (sets s o.at a) (o.at + length a) (omega (arith, long))) ∙ sym (sets_append a b s o.at),
+              k.behind ∙ min-eq_right (omega (arith, full, h.long)) ∙ h.long ∙ sym (min-eq_right (omega (arith, all))),
+            )
+        | inr g ↦
+            let there : p.at ≡ o.at + length a = h.behind ∙ min-eq_left (omega arith) in (
+              same ∙ ap (λ n. sets (sets s o.at a) n b) there ∙ sym (sets_append a b s o.at),
+              k.behind ∙ ap₂ min (omega (arith, there, all)) h.long,
+            )
+      ] in
+      record { same = k.same ∙ h.same; stored = stored; behind = behind; long = k.long ∙ h.long }
 
--- a text copied between the bytes before it and those behind
-pub text_puts : (o p : Out) (k : ℕ) (text w : List ℕ) → p.bytes.ghost_name ≡ o.bytes.ghost_name → p.bytes.now ≡ put_mid o.at k o.bytes.now w → p.at ≡ o.at + length text
-    → w ≡ text → k ≡ length text → HasRoom o text → Puts o text p
-text_puts o p k text w same copied behind e q h =
+-- what has no room is not stored
+sets_cut : (text s : List ℕ) (i n : ℕ) → n ≡ min (length text) (length s - i) → i ≤ length s → sets s i (take n text) ≡ sets s i text
+sets_cut text s i n e h = elim (below_or_not (length s - i) (length text)) [
+  | inl l ↦
+      let full : n ≡ length s - i = e ∙ min-eq_right (omega arith) in
+      let some : length (take n text) ≡ n = length-take-le n text (omega arith) in
+      sym (sets_past (drop n text) (sets s i (take n text)) (i + length (take n text)) (omega (arith, full, some, length-sets s i (take n text))))
+      ∙ sym (sets_append (take n text) (drop n text) s i) ∙ ap (sets s i) (take-append-drop n text)
+  | inr g ↦ ap (sets s i) (take_all n text (omega (arith, e, min-eq_left {n = length text} {m = length s - i} (omega arith))))
+]
+
+-- a text copied between the bytes before it and those behind, as much as there is room for
+pub text_puts : (o p : Out) (n k : ℕ) (text w : List ℕ) → n ≡ min (length text) (length o.bytes.now - o.at) → p.bytes.ghost_name ≡ o.bytes.ghost_name
+    → p.bytes.now ≡ put_mid o.at k o.bytes.now w → p.at ≡ o.at + n → w ≡ take n text → k ≡ n → Puts o text p
+text_puts o p n k text w fits same copied behind e q =
     let s : List ℕ = o.bytes.now in
+    let less : n ≤ length text = omega (arith, fits, min-le_left (length text) (length s - o.at)) in
+    let room : n ≤ length s - o.at = omega (arith, fits, min-le_right (length text) (length s - o.at)) in
+    let some : length (take n text) ≡ n = length-take-le n text less in
     let stored : p.bytes.now ≡ sets s o.at text =
-    copied ∙ ap₂ (λ (j : ℕ) (x : List ℕ). put_mid o.at j s x) q e ∙ ap (λ (x : List ℕ). take o.at s ++ (text ++ x)) (drop-drop (length text) o.at s)
-    ∙ sym (append_assoc (take o.at s) text (drop (o.at + length text) s)) ∙ sym (sets-eq text s o.at h) in
-    record { same = same; stored = stored; behind = behind; long = ap length stored ∙ length-sets s o.at text }
+    copied ∙ ap₂ (λ (j : ℕ) (x : List ℕ). put_mid o.at j s x) q e ∙ ap (λ (x : List ℕ). take o.at s ++ (take n text ++ x)) (drop-drop n o.at s)
+    ∙ sym (append_assoc (take o.at s) (take n text) (drop (o.at + n) s)) ∙ ap (λ (j : ℕ). (take o.at s ++ take n text) ++ drop (o.at + j) s) (sym some)
+    ∙ sym (sets-eq (take n text) s o.at (omega (arith, some, o.within))) ∙ sets_cut text s o.at n fits o.within in
+    record {
+      same = same;
+      stored = stored;
+      behind = elim (below_or_not (length s - o.at) (length text)) [
+        | inl l ↦ omega (arith, behind, o.within, fits, min-eq_right {n = length s - o.at} {m = length text} (omega arith), min-eq_right {n = length s} {m = o.at + length text} (omega (arith, o.within)))
+        | inr g ↦ omega (arith, behind, o.within, fits, min-eq_left {n = length text} {m = length s - o.at} (omega arith), min-eq_left {n = o.at + length text} {m = length s} (omega (arith, o.within)))
+      ];
+      long = ap length stored ∙ length-sets s o.at text;
+    }
 
 -- ---- lines
 
@@ -71,7 +110,7 @@ printing_none l whole k =
     record {
       done = [];
       same = refl;
-      puts = record { same = refl; stored = refl; behind = omega arith; long = refl };
+      puts = record { same = refl; stored = refl; behind = omega (arith, min-eq_left l.out.now.within); long = refl };
       all = refl;
       times = refl;
       event = refl;
@@ -94,10 +133,6 @@ module _ {l m : Lines} {whole rest : ByEvent} {k j : ℕ} (w : Printing l whole 
         times = p.times ∙ w.times;
         event = omega arith;
       }
-
-  -- there is room for them
-  pub printing_room : (a : ByEvent) (more : List ℕ) → text_at rest m ≡ text_at a m ++ more → Fits l whole → Fits m a
-  printing_room a more e h = omega (arith, ap length w.all, ap length e, length-append w.done (text_at rest m), length-append (text_at a m) more)
 
   -- all are put
   pub printing_all : text_at rest m ≡ [] → j ≡ 0 → Prints l whole k m

@@ -1,6 +1,6 @@
 -- The same text piece by piece, as the code puts it into a slice, from paths in an array; that it is the text of `specs.Text` is shown in `proofs.EventTexts`.
 -- Assumes nothing.
-use Rattle.std.specs.Prelude.{ℕ, ◌+◌, ◌≡◌, ◌≤◌, cond, List, [], ◌∷◌, ◌++◌, eqb, length}
+use Rattle.std.specs.Prelude.{ℕ, ◌+◌, ◌≡◌, min, cond, List, [], ◌∷◌, ◌++◌, eqb, length}
 use Rattle.std.proofs.lemmas.List.Edits.{sets}
 use Rattle.words.specs.Words.{word_at}
 use Rattle.rfc4180.specs.Text.{bytes}
@@ -8,21 +8,12 @@ use Rattle.network.specs.Events.{visits_of, points}
 use Rattle.printing.specs.declared.lines.Out.{Out}
 use Rattle.printing.specs.declared.events.Lines.{Lines}
 use Rattle.printing.specs.Text.{shown}
-use Rattle.printing.specs.Output.{output_need}
 
--- there is room for a text behind what is put
-abbrev pub HasRoom : Out → List ℕ → Type 0
-HasRoom o text = o.at + length text ≤ length o.bytes.now
-
--- there is room for any output
-abbrev pub HasAllRoom : Out → Type 0
-HasAllRoom o = o.at + output_need ≤ length o.bytes.now
-
--- a text is put into the slice o behind what is there: the slice is p then, the same one, of the same length
+-- a text is put into the slice o behind what is there, as far as there is room: the slice is p then, the same one, of the same length
 pub record Puts (o : Out) (text : List ℕ) (p : Out) : Type 0 where
   pub same : p.bytes.ghost_name ≡ o.bytes.ghost_name
   pub stored : p.bytes.now ≡ sets o.bytes.now o.at text
-  pub behind : p.at ≡ o.at + length text
+  pub behind : p.at ≡ min (o.at + length text) (length o.bytes.now)
   pub long : length p.bytes.now ≡ length o.bytes.now
 
 -- a number and a comma
@@ -74,10 +65,6 @@ lines_text time n ps = bytes "event,cart,cell,time\r\n" ++ (outer_line time 0 ++
 -- these lines, from the next event on
 abbrev pub text_at : ByEvent → Lines → List ℕ
 text_at lines l = lines (word_at 8 l.times.now) l.event
-
--- there is room for them
-abbrev pub Fits : Lines → ByEvent → Type 0
-Fits l lines = HasRoom l.out.now (text_at lines l)
 
 -- they are put, those of k events
 pub record Prints (l : Lines) (lines : ByEvent) (k : ℕ) (m : Lines) : Type 0 where

@@ -1,15 +1,16 @@
 // The lines of all events, from paths in an array: cart by cart, step by step.
+// A usize has no `From` to a u64, so that it is widened by `as`.
 ghost use Rattle.std.specs.Prelude.{◌≡◌, ◌+◌, ◌*◌, ◌≤◌, ◌<◌, length};
 ghost use Rattle.words.specs.Words.{word_at};
 ghost use Rattle.collisions.specs.Meetings.{paths_of};
 ghost use Rattle.limits.specs.Counts.{moves};
 ghost use Rattle.limits.specs.OfPaths.{moves_of};
-ghost use Rattle.printing.specs.Lines.{HasRoom, Puts, Fits, Prints, point_line, outer_line, move_lines, path_lines, paths_lines, lines_text};
+ghost use Rattle.printing.specs.Lines.{Puts, Prints, point_line, outer_line, move_lines, path_lines, paths_lines, lines_text};
 
 use crate::lines::Out;
 use collisions::Paths;
 
-// Where lines are put, the times of all events, and the number of the next.
+// Where lines are put, the times of all events, and the number of the next. What holds a `&mut` can't be copied or compared, so that `Drop` alone is derived.
 #[derive(Drop)]
 struct Lines<'a, 'b> {
     out: &'a mut Out<'b>,
@@ -19,10 +20,8 @@ struct Lines<'a, 'b> {
 
 impl<'a, 'b> Lines<'a, 'b> {
     // Puts the line of a point of a cart, at a cell.
-    #[tactic(auto, unfolding(crate::specs::Lines::point_line))]
     fn point(&mut self, cart: usize, cell: u32)
-        requires few { self.old.event < 4096 }
-        requires room { Fits self.old (point_line cart cell) }
+        requires { self.old.event < 4096 }
         ensures { Prints self.old (point_line cart cell) 1 self.new }
     {
         self.out.field(u64::from(self.event));
@@ -35,10 +34,8 @@ impl<'a, 'b> Lines<'a, 'b> {
     }
 
     // Puts the line of the start or the finish: cart 0 and no cell.
-    #[tactic(auto, unfolding(crate::specs::Lines::outer_line))]
     fn outer(&mut self)
-        requires few { self.old.event < 4096 }
-        requires room { Fits self.old outer_line }
+        requires { self.old.event < 4096 }
         ensures { Prints self.old outer_line 1 self.new }
     {
         let time = words::get64(self.times, usize::from(self.event));
@@ -50,10 +47,8 @@ impl<'a, 'b> Lines<'a, 'b> {
     }
 
     // Puts the lines of a move of a cart: the leave point of the one cell, the approach point and the entry of the other.
-    #[tactic(auto, unfolding(crate::specs::Lines::move_lines))]
     fn moves(&mut self, cart: usize, from: u32, to: u32)
-        requires few { self.old.event + 3 ≤ 4096 }
-        requires room { Fits self.old (move_lines cart from to) }
+        requires { self.old.event + 3 ≤ 4096 }
         ensures { Prints self.old (move_lines cart from to) 3 self.new }
     {
         self.point(cart, from);
@@ -65,7 +60,6 @@ impl<'a, 'b> Lines<'a, 'b> {
     fn path(&mut self, cart: usize, path: &[u32])
         requires some { 1 ≤ length path.now }
         requires few { self.old.event + 3 * moves path.now < 4096 }
-        requires room { Fits self.old (path_lines cart path.now) }
         ensures { Prints self.old (path_lines cart path.now) (3 * moves path.now + 1) self.new }
     {
         self.point(cart, path[0]);
@@ -80,7 +74,6 @@ impl<'a, 'b> Lines<'a, 'b> {
     fn paths(&mut self, paths: Paths)
         requires carts_bound { (1 ≤ paths.steps) × (paths.carts * paths.steps ≤ length paths.cells.now) }
         requires few { self.old.event + paths.carts + 3 * moves_of paths < 4096 }
-        requires room { Fits self.old (paths_lines 1 (paths_of paths)) }
         ensures { Prints self.old (paths_lines 1 (paths_of paths.entry)) (paths.entry.carts + 3 * moves_of paths.entry) self.new }
     {
         // By places, since chunks would have to be cut off behind the last path.
@@ -92,11 +85,9 @@ impl<'a, 'b> Lines<'a, 'b> {
 }
 
 // Puts the times of paths, whole: a first line, the start, the paths, the finish.
-#[tactic(auto, unfolding(crate::specs::Lines::lines_text, rfc4180::specs::Text::bytes))]
 pub(crate) fn put_times(out: &mut Out, times: &[u8], paths: Paths)
     requires carts_bound { (1 ≤ paths.steps) × (paths.carts * paths.steps ≤ length paths.cells.now) }
     requires few { 2 + paths.carts + 3 * moves_of paths ≤ 4096 }
-    requires room { HasRoom out.old (lines_text (word_at 8 times.now) (1 + (paths.carts + 3 * moves_of paths)) (paths_of paths)) }
     ensures { Puts out.old (lines_text (word_at 8 times.now) (1 + (paths.entry.carts + 3 * moves_of paths.entry)) (paths_of paths.entry)) out.new }
 {
     out.text(b"event,cart,cell,time\r\n");

@@ -1,4 +1,5 @@
 // What is printed for three tables, as bytes in a lent slice. The definitions are in specs/.
+// A usize has no `From` to a u64, so that it is widened by `as`.
 #![tactic(auto)]
 
 mod events;
@@ -9,21 +10,21 @@ ghost use Rattle.words.specs.Words.{word_at};
 ghost use Rattle.floor.specs.Refusal.{reason_number, table_number};
 ghost use Rattle.tables.specs.Lending.{tables_of};
 ghost use Rattle.schedule.specs.Timetable.{timetable};
+ghost use Rattle.slice.specs.declared.TheConstants.{PLAN_BYTES};
 ghost use Rattle.slice.specs.PlanSlice.{Held, held};
 ghost use Rattle.printing.specs.Text.{times_text, refusal_text};
-ghost use Rattle.printing.specs.Lines.{Puts, HasAllRoom};
+ghost use Rattle.printing.specs.Lines.{Puts};
 ghost use Rattle.printing.specs.Output.{timed_output, output, print};
 
 use crate::lines::Out;
 use floor::Refusal;
 use hegtalim::{LoadError, TimeError};
 use passes::Lent;
+use slice::{PLAN_BYTES, PlanSlice};
 use tables::{PlanArrays, Tables};
 
 // Puts a refusal of tables: its number, the table and the record.
-#[tactic(auto, using(crate::proofs::Digits::field_most, crate::proofs::Digits::ending_most))]
 fn put_refusal(out: &mut Out, why: Refusal)
-    requires { HasAllRoom out.old }
     ensures { Puts out.old (refusal_text (reason_number why.reason) (table_number why.table) why.row) out.new }
 {
     out.text(b"refusal,table,record\r\n");
@@ -34,9 +35,8 @@ fn put_refusal(out: &mut Out, why: Refusal)
 }
 
 // Puts the times of the plan that a slice holds; the times themselves are in another.
-fn put_plan(out: &mut Out, plan: &[u8], times: &[u8])
-    requires { HasAllRoom out.old × (233472 ≤ length plan.now) }
-    ensures { (h : Held) → held plan.now ≡ Some h → Puts out.old (times_text h.plan (word_at 8 times.now)) out.new }
+fn put_plan(out: &mut Out, plan: PlanSlice, times: &[u8])
+    ensures { (h : Held) → held plan.entry.bytes.now ≡ Some h → Puts out.old (times_text h.plan (word_at 8 times.now)) out.new }
 {
     let mut edges = [0u32; 4096];
     let mut speeds = [0u32; 128];
@@ -46,15 +46,14 @@ fn put_plan(out: &mut Out, plan: &[u8], times: &[u8])
         speeds: &mut speeds,
         cells: &mut cells,
     };
-    if let Ok(held) = slice::read_plan(plan, &mut arrays) {
+    if let Ok(held) = slice::read_plan(plan.bytes, &mut arrays) {
         events::put_times(out, times, held.size.paths(&cells));
     }
 }
 
 // Puts what a timetable finds of the plan that a slice holds: its times, or refusal 13.
-fn put_timed(out: &mut Out, plan: &[u8])
-    requires { HasAllRoom out.old × (233472 ≤ length plan.now) }
-    ensures { (h : Held) → held plan.now ≡ Some h → Puts out.old (timed_output h.plan (timetable h.plan h.book)) out.new }
+fn put_timed(out: &mut Out, plan: PlanSlice)
+    ensures { (h : Held) → held plan.entry.bytes.now ≡ Some h → Puts out.old (timed_output h.plan (timetable h.plan h.book)) out.new }
 {
     let mut times = [0u8; 32768];
     let mut numbers = [0u8; 8192];
@@ -64,7 +63,7 @@ fn put_timed(out: &mut Out, plan: &[u8])
         chain_bounds: &mut numbers,
         chain_directions: &mut directions,
     };
-    match hegtalim::timetable(plan, &mut lent) {
+    match hegtalim::timetable(plan.bytes, &mut lent) {
         Ok(_) => put_plan(out, plan, lent.times),
         Err(TimeError::NoTimes(_)) => out.text(b"refusal,table,record\r\n13,,\r\n"),
         Err(TimeError::TooShort) => {}
@@ -74,11 +73,11 @@ fn put_timed(out: &mut Out, plan: &[u8])
 
 // Puts what three tables come to: the refusal, or what a timetable finds of their plan, which is held in a slice lent for that.
 fn put_output(out: &mut Out, tables: Tables, plan: &mut [u8])
-    requires { HasAllRoom out.old × (233472 ≤ length plan.old) }
+    requires { PLAN_BYTES ≤ length plan.old }
     ensures { Puts out.old (output (tables_of tables.entry)) out.new }
 {
     match hegtalim::load(tables, plan) {
-        Ok(()) => put_timed(out, plan),
+        Ok(()) => put_timed(out, PlanSlice { bytes: plan }),
         Err(LoadError::Refused(why)) => put_refusal(out, why),
         Err(LoadError::TooShort) => {}
     }
@@ -92,7 +91,7 @@ pub fn print(tables: Tables, out: &mut [u8]) -> Option<usize>
     if out.len() < 348_245 {
         return None;
     }
-    let mut plan = [0u8; 233472];
+    let mut plan = [0u8; PLAN_BYTES];
     let mut lines = Out { bytes: out, at: 0 };
     put_output(&mut lines, tables, &mut plan);
     Some(lines.at)

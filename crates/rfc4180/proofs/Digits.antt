@@ -1,7 +1,7 @@
 -- How a reader meets the number of a field: by its length, its first byte, and then digit by digit. Assumes nothing.
 use Rattle.std.specs.Prelude.{None, Some}
 use Prim.Native.Nat.{ℕ, suc, ◌+◌, ◌*◌, ◌-◌, ◌^◌, ◌≤◌, ◌<◌}
-use native.Mathlib.Nat.{not-suc-le-zero, pow-le-pow_right, pow-suc, mul_comm}
+use native.Mathlib.Nat.{not-suc-le-zero, pow-suc, mul_comm}
 use native.Mathlib.Numerals.{add-one}
 use native.Mathlib.Omega.{arith}
 use mathlib.Core.Path.{◌≡◌, refl, ap, ◌∙◌}
@@ -73,10 +73,6 @@ number_digits (b ∷ []) h k z = refl
 number_digits (b ∷ c ∷ s) h k z =
     ap (λ (t : Bool). cond t None (cond (leb (length (b ∷ c ∷ s)) 10) (decimal 0 (b ∷ c ∷ s)) None)) (ne_eqb b 48 z)
     ∙ ap (λ (t : Bool). cond t (decimal 0 (b ∷ c ∷ s)) None) (le-leb (length (b ∷ c ∷ s)) 10 k)
-
--- nine digits make a small number
-pub ten_pow : {i : ℕ} → i < 10 → 10 ^ i ≤ 1_000_000_000
-ten_pow {i} h = pow-le-pow_right (omega arith) {i = i} {j = 9} (omega arith)
 
 -- a digit more
 pub ten_suc : (i : ℕ) → 10 ^ (i + 1) ≡ 10 ^ i * 10

@@ -313,27 +313,9 @@ fields_end (b ∷ r) h = by (eqb b 44) (field_step b r) (fields_step b r) (field
 
 -- the same at a place of a record
 module _ (r : List ℕ) (i : ℕ) where
-  field_here : i < length r → field_at r i ≡ cond (eqb (get_or r i 0) 44) [] (get_or r i 0 ∷ field_at r (i + 1))
-  field_here h =
-      field_of r i ∙ ap (λ (x : List ℕ). field_at x 0) (drop-cons r i 0 h) ∙ field_step (get_or r i 0) (drop (suc i) r)
-      ∙ ap (λ (x : List ℕ). cond (eqb (get_or r i 0) 44) [] (get_or r i 0 ∷ x)) (sym (field_of r (suc i)))
-      ∙ ap (λ (j : ℕ). cond (eqb (get_or r i 0) 44) [] (get_or r i 0 ∷ field_at r j)) (sym (add-one i))
-
-  -- a comma here ends the field
-  pub field_comma : i < length r → get_or r i 0 ≡ 44 → length (field_at r i) ≡ 0
-  field_comma h k = ap (length {A = ℕ}) (field_here h) ∙ simp (eq-eqb _ _ k)
-
-  -- any other byte belongs to it
-  pub field_goes_on : i < length r → (get_or r i 0 ≡ 44 → ⊥) → length (field_at r i) ≡ length (field_at r (i + 1)) + 1
-  field_goes_on h k = ap (length {A = ℕ}) (field_here h) ∙ simp (ne_eqb _ _ k, add-one)
-
   -- the record's end ends it
   pub field_over : length r ≤ i → field_at r i ≡ []
   field_over h = field_of r i ∙ ap (λ (x : List ℕ). field_at x 0) (drop_of_length-le r h) ∙ field_none
-
-  -- it ends within the record
-  pub field_fits : i ≤ length r → i + length (field_at r i) ≤ length r
-  field_fits h = rw (field_of r i) (omega (arith, field_length (drop i r), length-drop i r))
 
   -- it is what stands there
   pub field_part : take (length (field_at r i)) (drop i r) ≡ field_at r i
@@ -406,15 +388,6 @@ leading_all (f ∷ fs) ns e = by (number f) (numbers fs) refl (leading_all fs) e
 pub capped_small : (n : ℕ) → n ≤ 4_294_967_295 → capped n ≡ n
 unfolding capped
 capped_small n h = omega arith
-
--- and one that it cannot is over every bound below the greatest
-pub capped_leb : (n k : ℕ) → k < 4_294_967_295 → leb (capped n) k ≡ leb n k
-unfolding capped
-capped_leb n k h = by (leb n k) refl
-  where
-    by : (t : Bool) → leb n k ≡ t → leb (min n 4_294_967_295) k ≡ t
-    by true e = let l : min n 4_294_967_295 ≤ k = omega (arith, leb-true n k e) in le-leb _ _ l
-    by false e = let l : k < min n 4_294_967_295 = omega (arith, leb-false n k e) in lt-leb _ _ l
 
 -- ---- what a record answers
 

@@ -406,9 +406,6 @@ module _ (s : List ℕ) (a : Arrays) where
           by true f = f
           by false f = let no : Err HoldError.TooShort ≡ Ok n = (laid_short s a f).0 ∙ sym laid-left.0 ∙ q in absurd (cc)
 
-      pub slice_long : 233_472 ≤ length s
-      slice_long = (long_there s a long).0
-
       told : Ok n ≡ laying (length (log_in s)) (laid s)
       told = sym q ∙ laid-left.0 ∙ sym (of_laid s a long (laid s) refl).0
 

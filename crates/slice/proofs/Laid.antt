@@ -4,16 +4,18 @@ use Rattle.std.specs.Bool.{then_some}
 use Rattle.std.specs.List.{fold, position, position_or_len}
 use Rattle.std.proofs.lemmas.List.Recursion.{is_position_or_len}
 use Rattle.std.proofs.Common.{min, max, nat_lt}
+use Rattle.std.specs.Simd.{first_chunks}
+use Rattle.std.proofs.lemmas.List.Sums.{prefix_len-le-length}
 use Prim.Native.Nat.{ℕ, zero, suc, ◌+◌, ◌*◌, ◌-◌, ◌≤◌, ◌<◌}
 use native.Mathlib.Nat.{min-le_left}
 use native.Mathlib.Omega.{arith}
 use mathlib.Core.Path.{◌≡◌, refl, ap, ap₂, sym, ◌∙◌, subst}
 use mathlib.Core.Logic.{⊎_elim}
-use mathlib.Core.Bool.{Bool, true, false, ◌&&◌, cond, and_assoc, and-true}
+use mathlib.Core.Bool.{Bool, true, false, not, ◌&&◌, cond, and_assoc, and-true}
 use mathlib.Core.List.{List, [], ◌∷◌, ◌++◌, append_assoc}
 use lib.Dec.{eqb, eqb-zero-suc, eqb-suc-zero, lit<, lit≤}
-use lib.ListN.{length, take, drop, get_or, replicate, length-append, length-take, length-drop, length-map, replicate-append-replicate, get_or-eq_default, drop_of_length-le}
-use lib.Seq.{take-nil, take-add, take_all, drop-drop, length-take-le, get_or-take, get_or-drop}
+use lib.ListN.{length, take, drop, get_or, replicate, length-append, length-take, length-drop, length-map, replicate-append-replicate, get_or-eq_default}
+use lib.Seq.{take-add, take_all, drop-drop, length-take-le, get_or-take, get_or-drop}
 use borrow.Author.Tests.{eq-eqb, ne_eqb, eqb-false, ltb-false}
 use Rattle.laws.proofs.Options.{none-ne-some, some-injective}
 use Rattle.laws.proofs.Tests.{passes, below_or_not}
@@ -36,18 +38,6 @@ abbrev pub AllBytes : List ℕ → Type 0
 AllBytes s = (i : ℕ) → get_or s i 0 < 256
 
 -- ---- n places from place a on
-
--- none, where the slice ends before them
-pub part_over : (s : List ℕ) (a n : ℕ) → length s < a → [] ≡ take n (drop a s)
-part_over s a n h = sym (ap (take n) (drop_of_length-le s {i = a} (omega arith)) ∙ take-nil n)
-
--- as many as there are, where they are fewer
-pub part_rest : (s : List ℕ) (a n : ℕ) → length s - a < n → take (length s - a) (drop a s) ≡ take n (drop a s)
-part_rest s a n h = take_all (length s - a) (drop a s) (omega (arith, length-drop a s)) ∙ sym (take_all n (drop a s) (omega (arith, length-drop a s)))
-
--- else all
-pub part_all : (s : List ℕ) (a n : ℕ) → take (a + n - a) (drop a s) ≡ take n (drop a s)
-part_all s a n = let e : a + n - a ≡ n = omega arith in ap (λ (i : ℕ). take i (drop a s)) e
 
 -- the part `&s[i..]` is all from there on
 pub rest_is : (s : List ℕ) (i : ℕ) → take (length s - i) (drop i s) ≡ drop i s
@@ -90,14 +80,18 @@ text_place x = is_position_or_len (λ (l : List ℕ). length (until_zero l)) (λ
     by b l true = refl
     by b l false = omega arith
 
--- where that is found
-pub before_zero : (s : List ℕ) (o : Option ℕ) → o ≡ position (λ b. eqb b 0) s → unwrap_or o (length s) ≡ length (until_zero s)
-before_zero s o e = ap (λ (i : Option ℕ). unwrap_or i (length s)) e ∙ by (nat_lt (position_or_len (λ b. eqb b 0) s) (length s)) refl ∙ sym (text_place s)
+-- where what is looked for is found, or behind all
+pub found_or : {X : Type 0} (p : X → Bool) (xs : List X) (o : Option ℕ) → o ≡ position p xs → unwrap_or o (length xs) ≡ position_or_len p xs
+found_or p xs o e = ap (λ (i : Option ℕ). unwrap_or i (length xs)) e ∙ by (nat_lt (position_or_len p xs) (length xs)) refl
   where
-    by : (t : Bool) → nat_lt (position_or_len (λ b. eqb b 0) s) (length s) ≡ t
-        → unwrap_or (cond t (Some (position_or_len (λ b. eqb b 0) s)) None) (length s) ≡ position_or_len (λ b. eqb b 0) s
+    by : (t : Bool) → nat_lt (position_or_len p xs) (length xs) ≡ t
+        → unwrap_or (cond t (Some (position_or_len p xs)) None) (length xs) ≡ position_or_len p xs
     by true k = refl
-    by false k = let l : length s ≤ position_or_len (λ b. eqb b 0) s = ltb-false _ _ k in omega (arith, l, text_place s, text_short s)
+    by false k = let l : length xs ≤ position_or_len p xs = ltb-false _ _ k in omega (arith, l, prefix_len-le-length (λ x. not (p x)) xs)
+
+-- so for the first zero
+pub before_zero : (s : List ℕ) (o : Option ℕ) → o ≡ position (λ b. eqb b 0) s → unwrap_or o (length s) ≡ length (until_zero s)
+before_zero s o e = found_or (λ b. eqb b 0) s o e ∙ sym (text_place s)
 
 -- as many bytes more as are none of them zero
 pub text_block : (k : ℕ) (s : List ℕ) → k ≤ length s → ((j : ℕ) → j < k → 0 < get_or s j 0)
@@ -124,6 +118,27 @@ least_some m s x e q j h =
         at : (j : ℕ) → j < length (b ∷ s) → x ≤ min m b → ((k : ℕ) → k < length s → x ≤ get_or s k 0) → x ≤ get_or (b ∷ s) j 0
         at zero h l r = omega arith
         at (suc k) h l r = r k (omega arith)
+
+-- the blocks before the first that has a zero pass
+pub blocks_pass : (k : ℕ) (s : List ℕ) → k * 64 ≤ length s
+    → let n = position_or_len (λ (b : List ℕ). eqb (fold min 255 b) 0) (first_chunks 64 k s) in (n ≤ k) × (length (until_zero s) ≡ 64 * n + length (until_zero (drop (64 * n) s)))
+blocks_pass zero s h = (omega arith, omega arith)
+blocks_pass (suc k) s h = by (blocks_pass k (drop 64 s) (omega (arith, length-drop 64 s))) (eqb (fold min 255 (take 64 s)) 0) refl
+  where
+    next : ℕ
+    next = position_or_len (λ (b : List ℕ). eqb (fold min 255 b) 0) (first_chunks 64 k (drop 64 s))
+
+    by : (next ≤ k) × (length (until_zero (drop 64 s)) ≡ 64 * next + length (until_zero (drop (64 * next) (drop 64 s)))) → (t : Bool) → eqb (fold min 255 (take 64 s)) 0 ≡ t
+        → let n = cond (not t) (1 + next) 0 in (n ≤ suc k) × (length (until_zero s) ≡ 64 * n + length (until_zero (drop (64 * n) s)))
+    by (few, rest) true e = (omega arith, omega arith)
+    by (few, rest) false e =
+        let long : 64 ≤ length s = omega arith in
+        let all : length (take 64 s) ≡ 64 = simp length-take (omega arith) in
+        let first : length (until_zero s) ≡ 64 + length (until_zero (drop 64 s)) =
+        text_block 64 s long (λ j l. subst (λ (n : ℕ). 0 < n) (get_or-take 64 s j 0 l) (least_some 255 (take 64 s) _ refl e j (omega (arith, all)))) in
+        let same : 64 + 64 * next ≡ 64 * (1 + next) = omega arith in
+        let behind : drop (64 * next) (drop 64 s) ≡ drop (64 * (1 + next)) s = drop-drop (64 * next) 64 s ∙ ap (λ (m : ℕ). drop m s) same in
+        (omega arith, omega (arith, first, rest, ap (λ (x : List ℕ). length (until_zero x)) behind))
 
 -- ---- nothing but zeros
 
@@ -359,11 +374,11 @@ module _ (s : List ℕ) (long : 233_472 ≤ length s) (bytes : AllBytes s) where
 
   -- as the code finds it, part by part
   pub layout_found : (carts paths log times : List ℕ) → carts ≡ take 65_536 (drop 65_536 s) → paths ≡ take 65_536 (drop 131_072 s)
-      → log ≡ take 4096 (drop 196_608 s) → times ≡ take (length s) (drop 200_704 s)
+      → log ≡ take 4096 (drop 196_608 s) → times ≡ drop 200_704 s
       → (x : Option Layout) → x ≡ texts_laid (take 65_536 s) carts paths log times → x ≡ layout s
   layout_found carts paths log times ec ep el et x e =
       e ∙ ap₂ {C = Option Layout} (λ (l m : List ℕ). texts_laid (take 65_536 s) l m log times) ec ep
-      ∙ ap₂ {C = Option Layout} (texts_laid (take 65_536 s) (take 65_536 (drop 65_536 s)) (take 65_536 (drop 131_072 s))) el (et ∙ rest_of s 200_704) ∙ layout_is
+      ∙ ap₂ {C = Option Layout} (texts_laid (take 65_536 s) (take 65_536 (drop 65_536 s)) (take 65_536 (drop 131_072 s))) el et ∙ layout_is
 
 -- ---- what the code finds of the texts
 

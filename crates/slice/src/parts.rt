@@ -1,16 +1,16 @@
 // How a plan slice is laid out: each of its parts is bytes other than zero, and zeros after them.
-ghost use Rattle.std.specs.Prelude.{◌≡◌, ◌==◌, false, ℕ, ◌≤◌, ◌<◌, length, position, get_or};
+ghost use Rattle.std.specs.Prelude.{◌≡◌, ◌==◌, ◌≤◌, length, position, fold, min};
 ghost use Rattle.slice.specs.PlanSlice.{until_zero};
 ghost use Rattle.slice.specs.Holding.{only_zeros, layout};
 ghost use Rattle.slice.specs.Texts.{text_laid, texts_laid};
 
-use crate::{
-    CARTS_AT, LOG_AT, Layout, MOST_REPORTS, PATHS_AT, PLAN_BYTES, TABLE_BYTES, TIMES_AT, part,
-};
+use crate::{CARTS_AT, Layout, MOST_REPORTS, PATHS_AT, PLAN_BYTES, TABLE_BYTES, log, part};
+use book::Log;
+use tables::Tables;
 
 // Whether one of 64 bytes is zero. It never stops early, so that many bytes can be compared at once.
 fn has_zero(block: &[u8; 64]) -> bool
-    ensures { result ≡ false → (j : ℕ) → j < 64 → 0 < get_or block.now j 0 }
+    ensures { result ≡ (fold min 255 block.now == 0) }
 {
     block.iter().fold(255, |least: u8, b| least.min(*b)) == 0
 }
@@ -27,15 +27,10 @@ fn text_length(s: &[u8]) -> usize
     ensures value { result ≡ length (until_zero s.now) }
     ensures within { result ≤ length s.now }
 {
-    let mut rest = s;
-    // a `while let`: `chunks` would not say how far it came
-    while let Some((block, behind)) = rest.split_first_chunk::<64>() {
-        if has_zero(block) {
-            break;
-        }
-        rest = behind;
-    }
-    s.len() - rest.len() + first_zero(rest).unwrap_or(rest.len())
+    let (blocks, _) = s.as_chunks::<64>();
+    let passed = 64 * blocks.iter().position(has_zero).unwrap_or(blocks.len());
+    let rest = &s[passed..];
+    passed + first_zero(rest).unwrap_or(rest.len())
 }
 
 // Whether there is nothing but zeros: the greatest byte is zero. It never stops early, so that many bytes can be compared at once.
@@ -54,15 +49,15 @@ fn find_text(s: &[u8]) -> Option<usize>
 }
 
 // The lengths of four texts, the last of which has a time for each byte, if zeros follow each and the times.
-fn find_texts(roads: &[u8], carts: &[u8], paths: &[u8], log: &[u8], times: &[u8]) -> Option<Layout>
-    requires { length log.now ≤ MOST_REPORTS }
-    ensures { result ≡ texts_laid roads.now carts.now paths.now log.now times.now }
+fn find_texts(tables: Tables, log: Log) -> Option<Layout>
+    requires { length log.carts.now ≤ MOST_REPORTS }
+    ensures { result ≡ texts_laid tables.entry.roads.now tables.entry.carts.now tables.entry.paths.now log.entry.carts.now log.entry.times.now }
 {
-    let r = find_text(roads)?;
-    let c = find_text(carts)?;
-    let p = find_text(paths)?;
-    let n = find_text(log)?;
-    let behind = part(times, 8 * n, times.len());
+    let r = find_text(tables.roads)?;
+    let c = find_text(tables.carts)?;
+    let p = find_text(tables.paths)?;
+    let n = find_text(log.carts)?;
+    let behind = part(log.times, 8 * n, log.times.len());
     let layout = Layout {
         roads: r,
         carts: c,
@@ -77,9 +72,10 @@ pub(crate) fn find_parts(plan: &[u8]) -> Option<Layout>
     requires { PLAN_BYTES ≤ length plan.now }
     ensures { result ≡ layout plan.now }
 {
-    let carts = part(plan, CARTS_AT, TABLE_BYTES);
-    let paths = part(plan, PATHS_AT, TABLE_BYTES);
-    let log = part(plan, LOG_AT, MOST_REPORTS);
-    let times = part(plan, TIMES_AT, plan.len());
-    find_texts(&plan[..TABLE_BYTES], carts, paths, log, times)
+    let tables = Tables {
+        roads: &plan[..TABLE_BYTES],
+        carts: part(plan, CARTS_AT, TABLE_BYTES),
+        paths: part(plan, PATHS_AT, TABLE_BYTES),
+    };
+    find_texts(tables, log(plan, MOST_REPORTS))
 }

@@ -24,11 +24,11 @@ use Rattle.floor.specs.Refusal.{Judged, ◌>>=◌, ◌>>◌, need, given, within
 use Rattle.floor.specs.declared.Cart.{Cart}
 use Rattle.floor.specs.Carts.{number_or_empty, fastest_range, slowest_range, cart, read_carts}
 use Rattle.tables.specs.Arrays.{cart_numbers, carts_in}
-use Rattle.tables.specs.Reading.{taken, stored, counted, speeds, speeds_of, Taken, Count, BeginsWith}
-use Rattle.floor.proofs.Judging.{pass, stop, goes_on, ends}
+use Rattle.tables.specs.Reading.{said, counted, speeds, speeds_of, Count, BeginsWith}
+use Rattle.floor.proofs.Judging.{pass, stop, goes_on, ends, then_accepted, and_given_accepted, accepted_same}
 use Rattle.floor.proofs.Accepted.{SoundCart, cart_sound}
 use Rattle.tables.proofs.FirstLine.{at_none, bytes_over, bytes_within, line_other, line_there, counted_read, counted_refused}
-use Rattle.tables.proofs.Turns.{Says, says_need, says_given, left_refused, left_taken, accepted_there, flat_length, Turn, Ends, refused_ends, refused_turn, refused_number, taken_turn}
+use Rattle.tables.proofs.Turns.{Says, says_need, says_given, said_refused, said_taken, accepted_there, flat_length, Turn, Ends, refused_ends, refused_turn, refused_number, taken_turn}
 
 -- ---- the speeds of a record
 
@@ -127,11 +127,6 @@ cart_is before r = by (eqb (length (fields r)) 2) (number (get_or (fields r) 0 [
     by true (Some f) None = refl
     by true (Some f) (Some s) = refl
 
--- it depends on how many are before it
-pub cart_by_count : (b b' : List Cart) (r : List ℕ) → length b ≡ length b' → cart b r ≡ cart b' r
-unfolding next
-cart_by_count b b' r e = cart_is b r ∙ ap (λ (k : ℕ). cart_of (suc k) (speeds_of (fields r))) e ∙ sym (cart_is b' r)
-
 -- as many as were asked for
 pub carts_in_length : (n : ℕ) (s : List ℕ) → length (carts_in n s) ≡ n
 unfolding carts_in
@@ -155,10 +150,10 @@ cart_two_numbers c = refl
 -- ---- a record taken or not
 
 -- speeds in their ranges are numbers of four bytes
-pub speeds_small : (c : Cart) → (fastest_range c.fastest && slowest_range c.fastest c.slowest) ≡ true → (c.fastest ≤ 20_000_000) × (unwrap_or c.slowest 0 ≤ 20_000_000)
+speeds_small : (c : Cart) → T (fastest_range c.fastest && slowest_range c.fastest c.slowest) → (c.fastest ≤ 20_000_000) × (unwrap_or c.slowest 0 ≤ 20_000_000)
 unfolding fastest_range slowest_range
-speeds_small c e =
-    let both = and_yes (fastest_range c.fastest) (slowest_range c.fastest c.slowest) (subst T (sym e) tt) in
+speeds_small c t =
+    let both = and_yes (fastest_range c.fastest) (slowest_range c.fastest c.slowest) t in
     let f : c.fastest ≤ 20_000_000 = leb→le c.fastest 20_000_000 (and_yes (leb 1000 c.fastest) (leb c.fastest 20_000_000) both.0).1 in
     (f, by c.slowest both.1 f)
   where
@@ -166,72 +161,71 @@ speeds_small c e =
     by None t f = omega arith
     by (Some s) t f = let l : s ≤ c.fastest = leb→le s c.fastest (and_yes (leb 1000 s) (leb s c.fastest) t).1 in omega arith
 
-module _ (n : ℕ) (s r : List ℕ) where
-  -- the answer and the array after a record
-  abbrev pub Took : Taken → List ℕ → Type 0
-  Took x s' = (x ≡ taken (cart (carts_in n s) r)) × (s' ≡ stored cart_numbers (2 * n) (cart (carts_in n s) r) s)
+-- and those of a cart that is taken are in their ranges
+pub cart_small : (before : List Cart) (r : List ℕ) (c : Cart) → Ok c ≡ said (cart before r) → (c.fastest ≤ 20_000_000) × (unwrap_or c.slowest 0 ≤ 20_000_000)
+unfolding cart
+cart_small before r c e =
+    let fs : List (List ℕ) = fields r in
+    let (_, e1) = then_accepted (eqb (length fs) 2) Layout Carts _ _ c (accepted_there (cart before r) c (sym e)) in
+    let (f, _, e2) = and_given_accepted (number (get_or fs 0 [])) Layout Carts _ _ c e1 in
+    let (s, _, e3) = and_given_accepted (number_or_empty (get_or fs 1 [])) Layout Carts _ _ c e2 in
+    let (t, e4) = then_accepted (fastest_range f && slowest_range f s) Range Carts _ _ c e3 in
+    let (_, e5) = then_accepted (leb (next before) 64) Limit Carts _ _ c e4 in
+    subst (λ (x : Cart). (x.fastest ≤ 20_000_000) × (unwrap_or x.slowest 0 ≤ 20_000_000)) (accepted_same _ c e5) (speeds_small (record { fastest = f; slowest = s }) t)
 
-  with_speeds : (x : Option Cart) → x ≡ speeds_of (fields r) → cart (carts_in n s) r ≡ cart_of (suc n) x
+module _ (n : ℕ) (r : List ℕ) (before : List Cart) (count : length before ≡ n) where
+  with_speeds : (x : Option Cart) → x ≡ speeds_of (fields r) → cart before r ≡ cart_of (suc n) x
   unfolding next
-  with_speeds x e = cart_is (carts_in n s) r ∙ ap₂ (λ (k : ℕ) (y : Option Cart). cart_of (suc k) y) (carts_in_length n s) (sym e)
+  with_speeds x e = cart_is before r ∙ ap₂ (λ (k : ℕ) (y : Option Cart). cart_of (suc k) y) count (sym e)
 
   -- a record whose layout is broken
-  pub take_malformed : None ≡ speeds_of (fields r) → Took (Err Layout) s
-  take_malformed e = left_refused cart_numbers (2 * n) s (cart (carts_in n s) r) _ (with_speeds None e)
+  pub take_malformed : None ≡ speeds_of (fields r) → Err Layout ≡ said (cart before r)
+  take_malformed e = said_refused (cart before r) _ (with_speeds None e)
 
   module _ (c : Cart) (e : Some c ≡ speeds_of (fields r)) {t : Bool} (tested : t ≡ (fastest_range c.fastest && slowest_range c.fastest c.slowest)) where
-    judged : cart (carts_in n s) r ≡ cart_tests (suc n) c
+    judged : cart before r ≡ cart_tests (suc n) c
     judged = with_speeds (Some c) e
 
     -- a speed out of its range
-    pub take_range : t ≡ false → Took (Err Range) s
-    take_range h =
-        left_refused cart_numbers (2 * n) s (cart (carts_in n s) r) (record { reason = Range; table = Carts; row = suc n }) (judged ∙ stop _ Range Carts (suc n) _ (sym tested ∙ h))
+    pub take_range : t ≡ false → Err Range ≡ said (cart before r)
+    take_range h = said_refused (cart before r) _ (judged ∙ stop _ Range Carts (suc n) _ (sym tested ∙ h))
 
     module _ (ranges : t ≡ true) where
-      counted_one : cart (carts_in n s) r ≡ (need (leb (suc n) 64) Limit Carts (suc n) >> Ok c)
+      counted_one : cart before r ≡ (need (leb (suc n) 64) Limit Carts (suc n) >> Ok c)
       counted_one = judged ∙ pass _ Range Carts (suc n) _ (sym tested ∙ ranges)
 
       -- one too many
-      pub take_over : 64 ≤ n → Took (Err Limit) s
-      take_over h =
-          left_refused cart_numbers (2 * n) s (cart (carts_in n s) r) (record { reason = Limit; table = Carts; row = suc n })
-          (counted_one ∙ stop _ Limit Carts (suc n) _ (lt-leb (suc n) 64 (omega (arith, h))))
+      pub take_over : 64 ≤ n → Err Limit ≡ said (cart before r)
+      take_over h = said_refused (cart before r) _ (counted_one ∙ stop _ Limit Carts (suc n) _ (lt-leb (suc n) 64 (omega (arith, h))))
 
       -- a cart that is kept
-      pub take_kept : n < 64 → Took (Ok tt) (set (set s (2 * n) c.fastest) (2 * n + 1) (unwrap_or c.slowest 0))
-      unfolding cart_numbers
-      take_kept h =
-          left_taken cart_numbers (2 * n) s _ (cart (carts_in n s) r) c (counted_one ∙ pass _ Limit Carts (suc n) _ (le-leb (suc n) 64 (omega (arith, h))))
-          (ap (λ (i : ℕ). set (set s (2 * n) c.fastest) i (unwrap_or c.slowest 0)) (add-one (2 * n)))
+      pub take_kept : n < 64 → Ok c ≡ said (cart before r)
+      take_kept h = said_taken (cart before r) c (counted_one ∙ pass _ Limit Carts (suc n) _ (le-leb (suc n) 64 (omega (arith, h))))
 
 -- ---- the turns
 
 module _ (whole : Judged (List Cart)) (left : List (List ℕ)) (size : ℕ) (s : List ℕ) (n : ℕ) (u : Turn cart cart_numbers whole left size s n)
     (r : List ℕ) (rs : List (List ℕ)) (then : left ≡ r ∷ rs) where
-  -- the record is judged as after those before it
-  by_turn : cart (carts_in n s) r ≡ cart u.before r
-  by_turn = cart_by_count (carts_in n s) u.before r (carts_in_length n s ∙ sym u.count)
-
   -- a record that is not taken ends it
-  pub cart_refused : (why : Reason) (s' : List ℕ) → Err why ≡ taken (cart (carts_in n s) r)
+  pub cart_refused : (why : Reason) (s' : List ℕ) → Err why ≡ said (cart u.before r)
       → Ends cart cart_numbers whole size (Err (record { reason = why; table = Carts; row = n + 1 })) s'
   cart_refused why s' e =
       refused_turn cart cart_numbers whole left size s n u r rs then s' _
-      (refused_number cart cart_numbers whole left size s n u Carts _ why (cart_says u.before r) (sym (e ∙ ap taken by_turn)))
+      (refused_number cart cart_numbers whole left size s n u Carts _ why (cart_says u.before r) (sym e))
 
-  -- one that is taken is at most the 64th, and goes before the next
-  pub cart_kept : (s' : List ℕ) → 128 ≤ size → (Ok tt) ≡ taken (cart (carts_in n s) r) → s' ≡ stored cart_numbers (2 * n) (cart (carts_in n s) r) s
-      → (n + 1 ≤ 64) × Turn cart cart_numbers whole rs size s' (n + 1)
-  unfolding stored
-  cart_kept s' room e put =
-      let (c, j) = accepted_there (cart u.before r) (sym (e ∙ ap taken by_turn)) in
-      let few : suc (length u.before) ≤ 64 = (cart_sound u.before r c j).1 in
+  -- one that is taken is at most the 64th
+  pub cart_fits : (c : Cart) → Ok c ≡ said (cart u.before r) → n < 64
+  cart_fits c e = omega (arith, (cart_sound u.before r c (accepted_there _ c (sym e))).1, u.count)
+
+  -- and its numbers go before the next
+  pub cart_kept : (c : Cart) → 128 ≤ size → Ok c ≡ said (cart u.before r)
+      → Turn cart cart_numbers whole rs size (set (set s (2 * n) c.fastest) (2 * n + 1) (unwrap_or c.slowest 0)) (n + 1)
+  unfolding cart_numbers
+  cart_kept c room e =
       let so : length (flat_map cart_numbers u.before) ≡ 2 * n = flat_length cart_numbers 2 cart_two_numbers u.before ∙ ap (λ (k : ℕ). 2 * k) u.count in
-      let two : length (cart_numbers c) ≡ 2 = cart_two_numbers c in
-      let put' : s' ≡ sets s (length (flat_map cart_numbers u.before)) (cart_numbers c) =
-      put ∙ ap (λ (x : Judged Cart). stored cart_numbers (2 * n) x s) (by_turn ∙ j) ∙ ap (λ (i : ℕ). sets s i (cart_numbers c)) (sym so) in
-      (omega (arith, few, u.count), taken_turn cart cart_numbers whole left size s n u r rs then s' c j (omega (arith, so, two, room, few, u.count)) put')
+      let put : set (set s (2 * n) c.fastest) (2 * n + 1) (unwrap_or c.slowest 0) ≡ sets s (length (flat_map cart_numbers u.before)) (cart_numbers c) =
+      ap (λ (i : ℕ). set (set s (2 * n) c.fastest) i (unwrap_or c.slowest 0)) (add-one (2 * n)) ∙ ap (λ (i : ℕ). sets s i (cart_numbers c)) (sym so) in
+      taken_turn cart cart_numbers whole left size s n u r rs then _ c (accepted_there _ c (sym e)) (omega (arith, so, cart_two_numbers c, room, cart_fits c e)) put
 
 -- ---- the table
 

@@ -11,7 +11,7 @@ use mathlib.Core.Bool.{Bool, true, false, ◌&&◌, ◌||◌, cond}
 use mathlib.Core.List.{List, [], ◌∷◌, flat_map}
 use lib.Dec.{eqb}
 use lib.ListN.{length, drop, get_or, set, replicate, length-set, length-replicate}
-use lib.Seq.{sets, get_or-drop, get_or-set_same, get_or-set_other}
+use lib.Seq.{get_or-drop, get_or-set_same, get_or-set_other}
 use borrow.Author.Tests.{eq-eqb, eqb-true, eqb-false}
 use Rattle.floor.specs.declared.Refusal.{Refusal}
 use Rattle.floor.specs.Refusal.{Judged}
@@ -22,10 +22,10 @@ use Rattle.words.specs.Words.{padded}
 use Rattle.tables.specs.Arrays.{road_numbers, roads_in}
 use Rattle.tables.specs.Index.{bucket, bucket_at, last_in, Indexed, Linked, Unlinked}
 use Rattle.tables.specs.declared.lent.RoadIndex.{RoadIndex}
-use Rattle.tables.specs.Reading.{taken, stored, counted, Count}
+use Rattle.tables.specs.Reading.{counted, Count}
 use Rattle.floor.proofs.Judging.{refused_not_accepted, accepted_same}
 use Rattle.tables.proofs.Searches.{either, both_fail}
-use Rattle.tables.proofs.Turns.{Turn, left_refused, left_taken, refused_ends, all_taken, last_turn}
+use Rattle.tables.proofs.Turns.{Turn, refused_ends, all_taken, last_turn}
 
 -- ---- roads
 
@@ -311,20 +311,6 @@ module _ (n : ℕ) (s : List ℕ) (a b l m : ℕ) where
           get_or-set_other three (4 * n + 3) (4 * n + 1) m 0 (λ q. omega arith)
           ∙ get_or-set_other two (4 * n + 2) (4 * n + 1) l 0 (λ q. omega arith)
           ∙ get_or-set_same one (4 * n + 1) b 0 (omega (arith, length-set s (4 * n) a))
-
--- what is left of one that is refused
-pub road_refused : (n : ℕ) (s : List ℕ) (i : RoadIndex) (j : Judged Road) (r : Refusal) → j ≡ Err r
-    → (Err r.reason ≡ taken j) × ((s ≡ stored road_numbers (4 * n) j s) × ((d : Road) → j ≡ Ok d → Linked (n + 1) s i))
-road_refused n s i j r e =
-    let (a, b) = left_refused road_numbers (4 * n) s j r e in
-    (a, (b, λ d f. absurd (refused_not_accepted r d (sym e ∙ f))))
-
--- and of one that is taken
-pub road_linked : (n : ℕ) (s s' : List ℕ) (i : RoadIndex) (j : Judged Road) (d : Road) → j ≡ Ok d → s' ≡ sets s (4 * n) (road_numbers d) → Linked (n + 1) s' i
-    → ((Ok tt) ≡ taken j) × ((s' ≡ stored road_numbers (4 * n) j s) × ((d : Road) → j ≡ Ok d → Linked (n + 1) s' i))
-road_linked n s s' i j d e put k =
-    let (a, b) = left_taken road_numbers (4 * n) s s' j d e put in
-    (a, (b, λ d f. k))
 
 -- ---- the table
 

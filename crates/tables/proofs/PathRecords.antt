@@ -140,15 +140,15 @@ cells_more n w m s (inr e) = ap (λ (k : ℕ). suc k * m) (paths_in_length n w s
 
 -- of a record that is refused
 pub path_left_refused : (at : ℕ) (s s' : List ℕ) (j : Judged (List ℕ)) (r : Refusal) → j ≡ Err r
-    → (Err r.reason ≡ path_taken j) × ((cs : List ℕ) → j ≡ Ok cs → s' ≡ sets s at cs)
+    → (Err r.reason ≡ path_taken j) × ((cs : List ℕ) → j ≡ Ok cs → at + length cs ≤ length s → s' ≡ sets s at cs)
 unfolding path_taken
-path_left_refused at s s' j r e = (sym (ap path_taken e), λ cs f. absurd (refused_not_accepted r cs (sym e ∙ f)))
+path_left_refused at s s' j r e = (sym (ap path_taken e), λ cs f room. absurd (refused_not_accepted r cs (sym e ∙ f)))
 
 -- of one that is taken
-pub path_left_kept : (at : ℕ) (s s' cs : List ℕ) (j : Judged (List ℕ)) → j ≡ Ok cs → s' ≡ sets s at cs
-    → (Ok (length cs) ≡ path_taken j) × ((ds : List ℕ) → j ≡ Ok ds → s' ≡ sets s at ds)
+pub path_left_kept : (at : ℕ) (s s' cs : List ℕ) (j : Judged (List ℕ)) → j ≡ Ok cs → (at + length cs ≤ length s → s' ≡ sets s at cs)
+    → (Ok (length cs) ≡ path_taken j) × ((ds : List ℕ) → j ≡ Ok ds → at + length ds ≤ length s → s' ≡ sets s at ds)
 unfolding path_taken
-path_left_kept at s s' cs j e put = (sym (ap path_taken e), λ ds f. put ∙ ap (sets s at) (accepted_same cs ds (sym e ∙ f)))
+path_left_kept at s s' cs j e put = (sym (ap path_taken e), λ ds f room. let same = accepted_same cs ds (sym e ∙ f) in put (omega (arith, room, ap (length {A = ℕ}) same)) ∙ ap (sets s at) same)
 
 -- numbers that a place of four bytes can hold are held
 small_capped : (cs : List ℕ) → greatest cs ≤ 65534 → map capped cs ≡ cs
@@ -179,13 +179,10 @@ path_put s base fs cs o e small room q =
 
 -- ---- a record after the n paths of w cells each in the front of an array
 
-module _ (n w : ℕ) (s r : List ℕ) (room : (n * w ≤ 8192) × (8192 ≤ length s)) where
+module _ (n w : ℕ) (s r : List ℕ) (fits : n * w ≤ length s) where
   -- the answer, and what the array is then
   abbrev Left : PathTaken → List ℕ → Type 0
-  Left a s' = (a ≡ path_taken (path (paths_in n w s) r)) × ((cs : List ℕ) → path (paths_in n w s) r ≡ Ok cs → s' ≡ sets s (n * w) cs)
-
-  fits : n * w ≤ length s
-  fits = omega arith
+  Left a s' = (a ≡ path_taken (path (paths_in n w s) r)) × ((cs : List ℕ) → path (paths_in n w s) r ≡ Ok cs → n * w + length cs ≤ length s → s' ≡ sets s (n * w) cs)
 
   -- a field that is no number
   pub take_malformed : None ≡ option_map counted (numbers (fields r)) → (s' : List ℕ) → Left (Err Layout) s'
@@ -234,6 +231,6 @@ module _ (n w : ℕ) (s r : List ℕ) (room : (n * w ≤ 8192) × (8192 ≤ leng
               let (cs, is, count, top) = answered_numbers _ m most e in
               let kept : path (paths_in n w s) r ≡ Ok cs =
               path_kept (paths_in n w s) r cs is (wide cs count) (omega (arith, small, top)) (omega (arith, short, count)) (omega (arith, h, all_cells cs count)) in
-              let put : put_mid (n * w) (length s - n * w) s o ≡ sets s (n * w) cs =
-              path_put s (n * w) (fields r) cs o is (omega (arith, small, top)) (omega (arith, h, count, room)) q in
+              let put : n * w + length cs ≤ length s → put_mid (n * w) (length s - n * w) s o ≡ sets s (n * w) cs =
+              λ room. path_put s (n * w) (fields r) cs o is (omega (arith, small, top)) room q in
               subst (λ (k : ℕ). Left (Ok k) (put_mid (n * w) (length s - n * w) s o)) (sym count) (path_left_kept (n * w) s _ cs _ kept put)

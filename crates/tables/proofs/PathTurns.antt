@@ -24,7 +24,7 @@ use Rattle.floor.specs.Paths.{path, read_paths, steps}
 use Rattle.tables.specs.Arrays.{path_cells, paths_in}
 use Rattle.tables.specs.Reading.{path_taken, paths_read, PathTaken, PathsRead}
 use Rattle.floor.proofs.Judging.{refused_not_accepted, pass, stop, goes_on, ends}
-use Rattle.floor.proofs.Accepted.{Each, Even, even_none, even_more, path_sound, steps_more, in_order_even, read_paths_sound}
+use Rattle.floor.proofs.Accepted.{Each, Even, even_none, even_more, path_sound, steps_more, read_paths_sound}
 use Rattle.tables.proofs.Turns.{Says, Turn, first_turn, taken_turn, flat_more, stands, all_taken, whole_refused}
 use Rattle.tables.proofs.PathRecords.{path_says}
 
@@ -119,11 +119,7 @@ unfolding paths_read
 refused_paths_end whole size s r e = (sym (ap paths_read e), λ ps f. absurd (refused_not_accepted r ps (sym e ∙ f)))
 
 module _ (whole : Judged (List (List ℕ))) (left : List (List ℕ)) (size : ℕ) (s : List ℕ) (n w : ℕ) (u : PathTurn whole left size s n w) where
-  -- the paths before have room
-  pub turn_cells : n * w ≤ 8192
-  turn_cells = rw (← u.turn.count, u.width) u.even.few_cells
-
-  -- and are few
+  -- the paths before are few
   pub turn_count : n ≤ 8192
   turn_count = rw (← u.turn.count) (even_few u.turn.before u.even)
 
@@ -154,11 +150,11 @@ module _ (whole : Judged (List (List ℕ))) (left : List (List ℕ)) (size : ℕ
         refused_paths_end whole size s' _ (whole_refused path (λ (p : List ℕ). p) whole left size s n u.turn row rows then _ j)
 
     -- taken, it goes before the next
-    pub taken_path_turn : (m : ℕ) (s' : List ℕ) → 8192 ≤ size → Ok m ≡ path_taken (path (paths_in n w s) row)
-        → ((cs : List ℕ) → path (paths_in n w s) row ≡ Ok cs → s' ≡ sets s (n * w) cs)
+    pub taken_path_turn : (m : ℕ) (s' : List ℕ) → 8192 ≤ size → length s ≡ size → Ok m ≡ path_taken (path (paths_in n w s) row)
+        → ((cs : List ℕ) → path (paths_in n w s) row ≡ Ok cs → n * w + length cs ≤ length s → s' ≡ sets s (n * w) cs)
         → PathTurn whole rows size s' (n + 1) m
     unfolding path_cells taken_turn
-    taken_path_turn m s' room e stored =
+    taken_path_turn m s' room long e stored =
         let before : List (List ℕ) = u.turn.before in
         let (cs, j, count) = path_accepted_there (path (paths_in n w s) row) m e in
         let one : path before row ≡ Ok cs = ap (λ (x : List (List ℕ)). path x row) (sym turn_paths) ∙ j in
@@ -172,7 +168,7 @@ module _ (whole : Judged (List (List ℕ))) (left : List (List ℕ)) (size : ℕ
         record {
           turn =
               taken_turn path (λ (p : List ℕ). p) whole left size s n u.turn row rows then s' cs one fits
-              (stored cs j ∙ ap (λ (k : ℕ). sets s k cs) (sym after));
+              (stored cs j (omega (arith, fits, after, long)) ∙ ap (λ (k : ℕ). sets s k cs) (sym after));
           even = more;
           width = count ∙ sym (steps_more before cs same);
         }
@@ -246,10 +242,6 @@ module _ (carts : ℕ) (b : List ℕ) (size : ℕ) (s : List ℕ) where
 -- ---- for a caller
 
 -- the paths of an array that holds those that were read are they
-pub paths_read_held : (size : ℕ) (rs ps : List (List ℕ)) → records_in_order path [] rs ≡ Ok ps
-    → paths_in (length ps) (steps ps) (padded size (path_cells ps)) ≡ ps
-paths_read_held size rs ps e = even_held size ps (in_order_even rs ps e)
-
 pub read_paths_held : (size carts : ℕ) (b : List ℕ) (ps : List (List ℕ)) → read_paths carts b ≡ Ok ps
     → paths_in (length ps) (steps ps) (padded size (path_cells ps)) ≡ ps
 read_paths_held size carts b ps e = even_held size ps (read_paths_sound carts b ps e).0

@@ -331,11 +331,7 @@ index_self i = record { heads = refl; nexts = refl; heads_long = refl; nexts_lon
 pub index_on : (i j k : RoadIndex) → SameIndex i j → SameIndex j k → SameIndex i k
 index_on i j k a b = record { heads = b.heads ∙ a.heads; nexts = b.nexts ∙ a.nexts; heads_long = b.heads_long ∙ a.heads_long; nexts_long = b.nexts_long ∙ a.nexts_long }
 
--- what is left of the arrays lent for an index, in three cases: no room
-pub index_short : (n : ℕ) (s : List ℕ) (i : RoadIndex) → index_room i ≡ false → IndexLeft n s i i
-index_short n s i e = record { same = index_self i; where_room = λ f. absurd (true≢false (sym f ∙ e)); else_same = λ f. (refl, refl) }
-
--- room, and that of the roads
+-- what is left of the arrays lent for an index: where there is room, that of the roads
 pub index_there : (n : ℕ) (s : List ℕ) (i j : RoadIndex) → SameIndex i j → index_room i ≡ true → Indexed n s j.heads.now j.nexts.now → IndexLeft n s i j
 index_there n s i j same room there = record { same = same; where_room = λ e. there; else_same = λ e. absurd (true≢false (sym room ∙ e)) }
 

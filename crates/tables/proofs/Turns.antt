@@ -16,7 +16,7 @@ use Rattle.floor.specs.declared.Reason.{Reason}
 use Rattle.floor.specs.declared.Table.{Table}
 use Rattle.floor.specs.declared.Refusal.{Refusal}
 use Rattle.floor.specs.Refusal.{Judged, ◌>>=◌, need, given, next, records_in_order}
-use Rattle.tables.specs.Reading.{taken, stored, counted, Taken, Count}
+use Rattle.tables.specs.Reading.{said, counted, Count}
 use Rattle.floor.proofs.Judging.{refused_not_accepted, accepted_same}
 
 -- ---- where a refusal is
@@ -40,19 +40,24 @@ says_given t i None why f h = refl
 says_given t i (Some a) why f h = h a
 
 -- the reason of a record that is not taken
-reason_of : Reason → Taken → Reason
-reason_of d (Ok tt) = d
+reason_of : {A : Type 0} → Reason → Result A Reason → Reason
+reason_of d (Ok a) = d
 reason_of d (Err why) = why
 
 -- whether one is taken
-kept : Taken → Bool
-kept (Ok tt) = true
+kept : {A : Type 0} → Result A Reason → Bool
+kept (Ok a) = true
 kept (Err why) = false
 
+-- as what
+value_of : {A : Type 0} → A → Result A Reason → A
+value_of d (Ok a) = a
+value_of d (Err why) = d
+
 -- a record that is not taken is refused there
-pub refused_there : {A : Type 0} (t : Table) (i : ℕ) (j : Judged A) (why : Reason) → Says t i j → taken j ≡ Err why
+pub refused_there : {A : Type 0} (t : Table) (i : ℕ) (j : Judged A) (why : Reason) → Says t i j → said j ≡ Err why
     → j ≡ Err (record { reason = why; table = t; row = i })
-unfolding taken reason_of kept
+unfolding said reason_of kept
 refused_there t i (Err r) why h e = ap Err (h ∙ ap (λ (x : Reason). record { reason = x; table = t; row = i }) (ap (reason_of why) e))
 refused_there t i (Ok a) why h e = let z : true ≡ false = ap kept e in absurd (subst (λ (b : Bool). elim b as (λ _. Type 0) [ true ↦ Unit {0} | false ↦ ⊥ ]) z tt)
 
@@ -63,23 +68,21 @@ pub refused_why : {A : Type 0} (Q : Reason → Refusal → Type 0) (said : Resul
 refused_why {A} Q (Ok a) made m r e = absurd (refused_not_accepted r a (sym e ∙ m))
 refused_why {A} Q (Err why) made m r e = (why, refl, subst (λ x. IsErrAnd x (Q why)) e m)
 
--- one that is taken is accepted as something
-pub accepted_there : {A : Type 0} (j : Judged A) → taken j ≡ (Ok tt) → (a : A) × (j ≡ Ok a)
-unfolding taken kept
-accepted_there (Err r) e = let z : false ≡ true = ap kept e in absurd (subst (λ (b : Bool). elim b as (λ _. Type 0) [ true ↦ ⊥ | false ↦ Unit {0} ]) z tt)
-accepted_there (Ok a) e = (a, refl)
+-- one that is taken is accepted
+pub accepted_there : {A : Type 0} (j : Judged A) (a : A) → said j ≡ Ok a → j ≡ Ok a
+unfolding said kept value_of
+accepted_there (Err r) a e = let z : false ≡ true = ap kept e in absurd (subst (λ (b : Bool). elim b as (λ _. Type 0) [ true ↦ ⊥ | false ↦ Unit {0} ]) z tt)
+accepted_there (Ok b) a e = ap Ok (ap (value_of a) e)
 
--- what is answered of a record that is refused, and the array stays
-pub left_refused : {A : Type 0} (numbers : A → List ℕ) (at : ℕ) (s : List ℕ) (j : Judged A) (r : Refusal) → j ≡ Err r
-    → (Err r.reason ≡ taken j) × (s ≡ stored numbers at j s)
-unfolding taken stored
-left_refused {A} numbers at s j r e = (sym (ap taken e), sym (ap (λ (x : Judged A). stored numbers at x s) e))
+-- what is answered of a record that is refused
+pub said_refused : {A : Type 0} (j : Judged A) (r : Refusal) → j ≡ Err r → Err r.reason ≡ said j
+unfolding said
+said_refused j r e = sym (ap said e)
 
--- of one that is taken, and its numbers are stored
-pub left_taken : {A : Type 0} (numbers : A → List ℕ) (at : ℕ) (s s' : List ℕ) (j : Judged A) (a : A) → j ≡ Ok a → s' ≡ sets s at (numbers a)
-    → ((Ok tt) ≡ taken j) × (s' ≡ stored numbers at j s)
-unfolding taken stored
-left_taken {A} numbers at s s' j a e put = (sym (ap taken e), put ∙ sym (ap (λ (x : Judged A). stored numbers at x s) e))
+-- and of one that is taken
+pub said_taken : {A : Type 0} (j : Judged A) (a : A) → j ≡ Ok a → Ok a ≡ said j
+unfolding said
+said_taken j a e = sym (ap said e)
 
 -- ---- the numbers of many
 
@@ -167,7 +170,7 @@ module _ {A : Type 0} (judge : List A → List ℕ → Judged A) (numbers : A �
           }
 
     -- the refusal of one has the number of its turn
-    pub refused_number : (table : Table) (j : Judged A) (why : Reason) → Says table (next u.before) j → taken j ≡ Err why → j ≡ Err (record { reason = why; table = table; row = n + 1 })
+    pub refused_number : (table : Table) (j : Judged A) (why : Reason) → Says table (next u.before) j → said j ≡ Err why → j ≡ Err (record { reason = why; table = table; row = n + 1 })
     unfolding next
     refused_number table j why h e =
         refused_there table (suc (length u.before)) j why h e

@@ -2,7 +2,6 @@
 -- Assumes nothing.
 use Rattle.std.specs.Prelude.{ℕ, ◌≡◌, Bool, true, false, ◌&&◌, cond, leb, eqb, length, get_or, replicate, Option, None, Some, Err, Ok, Result}
 use mathlib.Core.List.{List, [], flat_map}
-use Rattle.std.proofs.lemmas.List.Edits.{sets}
 use Rattle.words.specs.Words.{padded}
 use Rattle.rfc4180.specs.Number.{number}
 use Rattle.floor.specs.declared.Reason.{Reason}
@@ -20,18 +19,10 @@ use Rattle.floor.specs.Paths.{read_paths, steps, off_road, first_same_cell, firs
 use Rattle.floor.specs.Tables.{Tables, read_tables}
 use Rattle.tables.specs.Arrays.{road_numbers, cart_numbers, path_cells}
 
--- what is said of one record: it is taken, or why not
-abbrev pub Taken : Type 0
-Taken = Result (Unit {0}) Reason
-
-unfoldable pub taken : {A : Type 0} → Judged A → Taken
-taken (Err r) = Err r.reason
-taken (Ok a) = Ok tt
-
--- a record that is taken has its numbers stored from this place on
-unfoldable pub stored : {A : Type 0} → (A → List ℕ) → ℕ → Judged A → List ℕ → List ℕ
-stored numbers at (Err r) s = s
-stored numbers at (Ok a) s = sets s at (numbers a)
+-- what one record says, or why it is not taken
+unfoldable pub said : {A : Type 0} → Judged A → Result A Reason
+said (Err r) = Err r.reason
+said (Ok a) = Ok a
 
 -- what is said of a table: how many there are, or the refusal
 abbrev pub Count : Type 0
@@ -171,5 +162,5 @@ reading ts a =
 
 -- Names every definition of this module, for a proof that computes with them all.
 unfoldable pub open_reading : Unit {0}
-unfolding taken stored counted speeds speeds_of road_read path_taken paths_read accepted apart read_apart room size_of size_read read_answer roads_read zeros numbers_of arrays_judged reading
+unfolding said counted speeds speeds_of road_read path_taken paths_read accepted apart read_apart room size_of size_read read_answer roads_read zeros numbers_of arrays_judged reading
 open_reading = tt

@@ -7,8 +7,8 @@ ghost use Rattle.rfc4180.specs.Records.{records, fields};
 ghost use Rattle.floor.specs.Refusal.{records_in_order};
 ghost use Rattle.floor.specs.declared.Cart.{Cart};
 ghost use Rattle.floor.specs.Carts.{fastest_range, slowest_range, cart, read_carts};
-ghost use Rattle.tables.specs.Arrays.{cart_numbers, carts_in};
-ghost use Rattle.tables.specs.Reading.{taken, counted, stored, speeds_of};
+ghost use Rattle.tables.specs.Arrays.{cart_numbers};
+ghost use Rattle.tables.specs.Reading.{said, counted, speeds_of};
 
 use crate::begins_with;
 use floor::{Cart, Reason, Refusal, Table};
@@ -67,11 +67,9 @@ fn read_speeds(row: &[u8]) -> Option<Cart>
     })
 }
 
-// One record, after n carts: where it is taken, its numbers follow theirs.
-fn take_cart(row: &[u8], n: usize, carts: &mut [u32]) -> Result<(), Reason>
-    requires { (n ≤ 64) × (128 ≤ length carts.old) }
-    ensures answer { result ≡ taken (cart (carts_in n carts.old) row.now) }
-    ensures left { carts.new ≡ stored cart_numbers (2 * n) (cart (carts_in n carts.old) row.now) carts.old }
+// The cart of a record that comes after n carts.
+fn read_cart(row: &[u8], n: usize) -> Result<Cart, Reason>
+    ensures { (before : List Cart) → length before ≡ n → result ≡ said (cart before row.now) }
 {
     let cart = read_speeds(row).ok_or(Reason::Layout)?;
     if !in_ranges(cart) {
@@ -80,12 +78,10 @@ fn take_cart(row: &[u8], n: usize, carts: &mut [u32]) -> Result<(), Reason>
     if 64 <= n {
         return Err(Reason::Limit);
     }
-    carts[2 * n] = cart.fastest as u32;
-    carts[2 * n + 1] = cart.slowest.unwrap_or(0) as u32;
-    Ok(())
+    Ok(cart)
 }
 
-// The records, one after the other.
+// The records, one after the other: the numbers of each follow those before.
 fn carts_from(rows: Reader, carts: &mut [u32]) -> Result<usize, Refusal>
     requires { (128 ≤ length carts.old) × (carts.old ≡ replicate (length carts.old) 0) }
     ensures answer { result ≡ counted (records_in_order cart [] (records rows.entry.rest.now)) }
@@ -93,7 +89,9 @@ fn carts_from(rows: Reader, carts: &mut [u32]) -> Result<usize, Refusal>
 {
     let mut n = 0;
     for row in rows {
-        take_cart(row, n, carts).map_err(|reason| Table::Carts.refuses(reason, n + 1))?;
+        let cart = read_cart(row, n).map_err(|reason| Table::Carts.refuses(reason, n + 1))?;
+        carts[2 * n] = cart.fastest as u32;
+        carts[2 * n + 1] = cart.slowest.unwrap_or(0) as u32;
         n += 1;
     }
     Ok(n)

@@ -12,7 +12,10 @@ pub struct Tables<'a> {
     pub paths: &'a [u8],
 }
 
-// The arrays of a plan: four numbers a road, two a cart, one a path cell.
+// The arrays of a plan: four numbers a road, two a cart, one a path cell. Where those of a road or cart stand is worked out, `4 * i`: the places of the links, of
+// the records and of the carts' paths go along with i, so that chunks would be no plainer.
+// A slowest speed of 0 stands for none: memory is fixed, and an `Option` takes twice as much.
+// `Drop` alone is derived: what holds `&mut` slices can't be copied or compared.
 #[derive(Drop)]
 pub struct PlanArrays<'a> {
     pub edges: &'a mut [u32],
@@ -21,7 +24,7 @@ pub struct PlanArrays<'a> {
 }
 
 impl<'a> PlanArrays<'a> {
-    // Whether each has room for any plan.
+    // Whether each has room for any plan. That is no fact of the type: callers make one, and it would ask more of them.
     #[tactic(auto, unfolding(crate::specs::Reading::room))]
     pub fn has_room(&self) -> bool
         ensures { result ≡ room (arrays_of self.now) }
@@ -41,7 +44,8 @@ impl<'a> PlanArrays<'a> {
     }
 }
 
-// The arrays of an index: each remainder's last road, and to each road the one of its remainder before it; 0 stands for none.
+// The arrays of an index: each remainder's last road, and to each road the one of its remainder before it; 0 stands for none, as in those of a plan.
+// Two arrays, as there is no heap for a map. Callers may lend arrays of any length: a type of 1,024 places would ask more of them.
 #[derive(Drop)]
 pub struct RoadIndex<'a> {
     pub heads: &'a mut [u16],

@@ -90,6 +90,7 @@ fn judge_paths(size: Size, arrays: &PlanArrays, index: &RoadIndex) -> Result<(),
 }
 
 // The three tables, and the index of the roads, in arrays of zeros.
+// That the index is of no road is asked for, and is no fact of a type: it ends with the first road that is linked, and the caller's arrays stay the same.
 fn read_each(
     tables: Tables,
     arrays: &mut PlanArrays,

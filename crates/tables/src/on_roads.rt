@@ -1,5 +1,5 @@
 // Paths held against the roads: refusal 7.
-ghost use Rattle.std.specs.Prelude.{◌≡◌, ◌+◌, ◌*◌, ◌≤◌, length, take, drop};
+ghost use Rattle.std.specs.Prelude.{◌≡◌, ◌*◌, ◌≤◌, length};
 ghost use Rattle.floor.specs.Paths.{on_roads, off_road};
 ghost use Rattle.tables.specs.Arrays.{roads_in};
 ghost use Rattle.collisions.specs.Meetings.{paths_of};
@@ -7,15 +7,12 @@ ghost use Rattle.collisions.specs.Meetings.{paths_of};
 use crate::roads::Roads;
 use collisions::Paths;
 
-// Whether a path of w cells, from place `at` on, keeps to the roads.
-fn keeps_to_roads(roads: Roads, cells: &[u32], at: usize, w: usize) -> bool
-    requires { at + w ≤ length cells.now }
-    ensures { result ≡ on_roads (roads_in roads.entry.count roads.entry.numbers.now) (take w (drop at cells.now)) }
+// Whether a path keeps to the roads.
+fn keeps_to_roads(roads: Roads, path: &[u32]) -> bool
+    ensures { result ≡ on_roads (roads_in roads.entry.count roads.entry.numbers.now) path.now }
 {
-    for s in 1..w {
-        let a = cells[at + s - 1];
-        let b = cells[at + s];
-        if a != b && !roads.join(a, b) {
+    for step in path.windows(2) {
+        if step[0] != step[1] && !roads.join(step[0], step[1]) {
             return false;
         }
     }
@@ -33,7 +30,8 @@ pub(crate) fn off_roads(roads: Roads, paths: Paths) -> Option<usize>
         steps,
     } = paths;
     for i in 0..carts {
-        if !keeps_to_roads(roads, cells, i * steps, steps) {
+        let at = i * steps;
+        if !keeps_to_roads(roads, &cells[at..at + steps]) {
             return Some(i + 1);
         }
     }

@@ -1,5 +1,5 @@
 // The table of paths.
-ghost use Rattle.std.specs.Prelude.{◌≡◌, List, [], ℕ, ◌*◌, ◌≤◌, length, replicate};
+ghost use Rattle.std.specs.Prelude.{◌≡◌, List, [], ℕ, ◌+◌, ◌*◌, ◌≤◌, length, replicate};
 ghost use Rattle.std.proofs.lemmas.List.Edits.{sets};
 ghost use Rattle.words.specs.Words.{padded};
 ghost use Rattle.rfc4180.specs.Records.{records};
@@ -11,11 +11,11 @@ ghost use Rattle.tables.specs.Reading.{path_taken, paths_read};
 use floor::{Reason, Refusal, Table};
 use rfc4180::Reader;
 
-// One record, after n paths of w cells each: where it is taken, its cells follow theirs; how many there are.
+// One record, after n paths of w cells each: where it is taken and there is room, its cells follow theirs; how many there are.
 fn take_path(row: &[u8], n: usize, w: usize, cells: &mut [u32]) -> Result<usize, Reason>
-    requires { (n * w ≤ 8192) × (8192 ≤ length cells.old) }
+    requires { (n * w ≤ 8192) × (n * w ≤ length cells.old) }
     ensures answer { result ≡ path_taken (path (paths_in n w cells.old) row.now) }
-    ensures left { (cs : List ℕ) → path (paths_in n w cells.old) row.now ≡ Ok cs → cells.new ≡ sets cells.old (n * w) cs }
+    ensures left { (cs : List ℕ) → path (paths_in n w cells.old) row.now ≡ Ok cs → n * w + length cs ≤ length cells.old → cells.new ≡ sets cells.old (n * w) cs }
 {
     let base = n * w;
     let numbers = rfc4180::read_numbers(row, &mut cells[base..]).ok_or(Reason::Layout)?;

@@ -12,13 +12,13 @@ ghost use Rattle.floor.specs.declared.Road.{Road};
 ghost use Rattle.floor.specs.Roads.{road_ranges, road, read_roads};
 ghost use Rattle.tables.specs.Arrays.{road_numbers, roads_in};
 ghost use Rattle.tables.specs.Index.{Linked, Unlinked};
-ghost use Rattle.tables.specs.Reading.{taken, counted, stored, road_read};
+ghost use Rattle.tables.specs.Reading.{said, counted, road_read};
 
 use crate::{RoadIndex, begins_with, bucket_of};
 use floor::{Reason, Refusal, Road, Table};
 use rfc4180::Reader;
 
-// The roads in the front of an array, and their index.
+// The roads in the front of an array, and their index. Those of `bounds` are another type, since its fact is another: their index may be missing.
 #[derive(Clone, Copy)]
 pub(crate) struct Roads<'a> {
     pub numbers: &'a [u32],
@@ -50,11 +50,28 @@ impl<'a> Roads<'a> {
         }
         false
     }
+
+    // The road of a record that comes after these.
+    fn read(self, row: &[u8]) -> Result<Road, Reason>
+        ensures { result ≡ said (road (roads_in self.entry.count self.entry.numbers.now) row.now) }
+    {
+        let road = read_road(row)?;
+        if road.from == road.to {
+            return Err(Reason::RoadPair);
+        }
+        if self.join(road.from, road.to) {
+            return Err(Reason::RoadPair);
+        }
+        if 1024 <= self.count {
+            return Err(Reason::Limit);
+        }
+        Ok(road)
+    }
 }
 
 // Puts a road after n roads, and links it.
 fn put_road(road: Road, n: usize, roads: &mut [u32], index: &mut RoadIndex)
-    requires n_bound { (n < 1024) × (4096 ≤ length roads.old) }
+    requires n_bound { (n < 1024) × (4 * n + 4 ≤ length roads.old) }
     requires linked { Linked n roads.old index.old }
     ensures left { roads.new ≡ sets roads.old (4 * n) (road_numbers road) }
     ensures index { Linked (n + 1) roads.new index.new }
@@ -101,34 +118,7 @@ fn read_road(row: &[u8]) -> Result<Road, Reason>
     Ok(road)
 }
 
-// One record, after n roads: where it is taken, its numbers follow theirs, and it is linked.
-fn take_road(row: &[u8], n: usize, roads: &mut [u32], index: &mut RoadIndex) -> Result<(), Reason>
-    requires n_bound { (n ≤ 1024) × (4096 ≤ length roads.old) }
-    requires linked { Linked n roads.old index.old }
-    ensures answer { result ≡ taken (road (roads_in n roads.old) row.now) }
-    ensures left { roads.new ≡ stored road_numbers (4 * n) (road (roads_in n roads.old) row.now) roads.old }
-    ensures index { (d : Road) → road (roads_in n roads.old) row.now ≡ Ok d → Linked (n + 1) roads.new index.new }
-{
-    let road = read_road(row)?;
-    if road.from == road.to {
-        return Err(Reason::RoadPair);
-    }
-    let before = Roads {
-        numbers: roads,
-        index,
-        count: n,
-    };
-    if before.join(road.from, road.to) {
-        return Err(Reason::RoadPair);
-    }
-    if 1024 <= n {
-        return Err(Reason::Limit);
-    }
-    put_road(road, n, roads, index);
-    Ok(())
-}
-
-// The records, one after the other.
+// The records, one after the other: each is put behind those before and linked. That the index is of no road is no fact of a type, as it ends here (read_each).
 fn roads_from(rows: Reader, roads: &mut [u32], index: &mut RoadIndex) -> Result<usize, Refusal>
     requires in_bounds { (4096 ≤ length roads.old) × (roads.old ≡ replicate (length roads.old) 0) }
     requires unlinked { Unlinked index.old }
@@ -138,7 +128,15 @@ fn roads_from(rows: Reader, roads: &mut [u32], index: &mut RoadIndex) -> Result<
 {
     let mut n = 0;
     for row in rows {
-        take_road(row, n, roads, index).map_err(|reason| Table::Roads.refuses(reason, n + 1))?;
+        let before = Roads {
+            numbers: roads,
+            index,
+            count: n,
+        };
+        let road = before
+            .read(row)
+            .map_err(|reason| Table::Roads.refuses(reason, n + 1))?;
+        put_road(road, n, roads, index);
         n += 1;
     }
     Ok(n)

@@ -8,7 +8,6 @@ use mathlib.Core.Logic.{◌≢◌, ⊎_elim}
 use mathlib.Core.Bool.{Bool, true, false}
 use mathlib.Core.List.Memᴰ
 use mathlib.Core.List.{List, [], ◌∷◌, Memᴰ}
-use mathlib.Core.Option as Opt
 use lib.Dec.{T}
 use lib.IntN.{ℤ, pos, ℤ_discrete}
 use lib.Signed.{◌<ℤ◌}

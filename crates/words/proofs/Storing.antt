@@ -15,10 +15,6 @@ use Rattle.words.proofs.Reading.{word_length, words_length}
 
 -- ---- storing
 
--- nothing is stored yet
-pub put_first : (s : List ℕ) (at k v : ℕ) → sets s (at + 0) (word (k - 0) v) ≡ sets s at (word k v)
-put_first s at k v = grind (arith, nat_tests)
-
 -- one byte is stored, and the rest is to come
 pub put_turn : (s : List ℕ) (at k i x : ℕ) → i < k
     → sets (set s (at + i) (x % 256)) (at + (i + 1)) (word (k - (i + 1)) (x / 256)) ≡ sets s (at + i) (word (k - i) x)
@@ -102,10 +98,6 @@ said_more s at k left x w p g r =
       says = rw (drop-cons (take k (drop at s)) (left - 1) 0 (omega arith), v, d) (omega arith);
     }
 
--- all are read
-pub said_all : (s : List ℕ) (at k left x : ℕ) → left ≤ 0 → Said s at k left x → x ≡ little (take k (drop at s))
-said_all s at k left x h r = let z : left ≡ 0 = omega arith in r.says ∙ ap (λ (n : ℕ). little (drop n (take k (drop at s)))) z
-
 -- a place past the end
 pub word_past : (k : ℕ) (s : List ℕ) (i : ℕ) → 0 < k → length s / k < i → 0 ≡ word_at k s i
 unfolding word_at little
@@ -114,14 +106,6 @@ word_past k s i p h =
     let none_left : drop (k * i) s ≡ [] = drop_of_length-le s {i = k * i} (omega (arith, mul_comm i k)) in
     let none-taken : take k [] ≡ [] = take-nil k in
     sym (ap (λ (l : List ℕ). little (take k l)) none_left ∙ ap little none-taken)
-
--- a place that begins before it
-pub word_begins : (k : ℕ) (s : List ℕ) (i : ℕ) → 0 < k → i ≤ length s / k → k * i ≤ length s
-word_begins k s i p h = omega (arith, (le-div_iff_mul-le {k = k} {x = i} {y = length s} p).0 h, mul_comm i k)
-
--- and one that ends before it
-pub word_ends : (k : ℕ) (s : List ℕ) (i : ℕ) → 0 < k → i < length s / k → k * i + k ≤ length s
-word_ends k s i p h = omega (arith, (le-div_iff_mul-le {k = k} {x = suc i} {y = length s} p).0 h, mul_comm (suc i) k, mul-suc k i)
 
 -- a place that is cut off at the end: the bytes that are there
 pub word_cut : (k : ℕ) (s : List ℕ) (i r : ℕ) → r ≡ length s - k * i → r < k → (x : ℕ) → x ≡ little (take r (drop (k * i) s)) → x ≡ word_at k s i

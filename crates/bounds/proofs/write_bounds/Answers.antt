@@ -26,7 +26,7 @@ returns-then-not-first_events c =
     let p = c.args.plan.now.paths in
     let z = (goal.at.returns-then-not-first_events c).Start in
     let none = fitting z false (sym (fit_there p.carts p.steps p.cells.now) ∙ sym c.first_events.ensures.answer ∙ c.if-not-first_events.true) in
-    record { answer = sym (ap network_answer none); left = puts_none _ _ _ (ap network_bounds none) }
+    record { answer = sym (ap network_answer none); left = puts_none c.args.out.now _ (ap network_bounds none) }
 
 -- the limits of paths and events are kept
 kept : (c : Else-not-first_events) → let p = c.args.plan.now.paths in events_kept p.carts p.steps p.cells.now ≡ true
@@ -66,5 +66,5 @@ returns c =
     record {
       answer = ap₂ {C = Option Network} (λ (f m : ℕ). Some (record { events = f + 1; bounds = m })) c.from.ensures refl
           ∙ answered c.args.plan.now c.first_events.new.firsts (held e) c.write_all-n.result c.write_all-n.ensures.value ∙ sym (ap network_answer some);
-      left = subst (λ (o : Option Plan). Puts c.args.out.now c.write_all-n.new.out 0 (network_bounds o)) (sym some) c.write_all-n.ensures.left;
+      left = subst (λ (o : Option Plan). Puts c.args.out.now c.write_all-n.new.out (network_bounds o)) (sym some) c.write_all-n.ensures.left;
     }

@@ -4,5 +4,5 @@ use Rattle.network.proofs.Putting.{Putting}
 use Rattle.bounds.specs.Writing.{start_to}
 use Rattle.bounds.proofs.write_starts.Given as goal
 
-abbrev pub invariant-loop-i : goal.invariant-loop-i
-invariant-loop-i l = Putting l.initial.out l.out 0 (l.i) (map start_to l.firsts) (map start_to (drop l.i l.firsts))
+abbrev pub invariant-loop-first : goal.invariant-loop-first
+invariant-loop-first l = Putting l.initial.out l.out (map start_to l.firsts) (map start_to (drop l.first-index l.firsts))

@@ -1,6 +1,6 @@
 -- `collisions::exchanges` meets its contract. The loops' invariants are those of `same_cells`, for the moves to a step.
 -- Assumes nothing.
-use Prim.Native.Nat.{ℕ, ◌+◌, ◌*◌, ◌-◌, ◌≤◌, ◌<◌}
+use Prim.Native.Nat.{ℕ, ◌+◌, ◌*◌, ◌-◌, ◌<◌}
 use native.Mathlib.Numerals.{unary_clauses}
 use native.Mathlib.Omega.{arith}
 use mathlib.Core.Path.{refl, ap, sym, ◌∙◌}
@@ -8,7 +8,7 @@ use mathlib.Core.List.{List}
 use lib.ListN.{take, drop, get_or}
 use Rattle.floor.specs.Paths.{collides, Move, exchanged, exchange, steps, first_exchange}
 use Rattle.collisions.specs.Meetings.{paths_in}
-use Rattle.collisions.proofs.Searches.{path_fits, moves_at, moves_placed, moves_meet, moves_pass, stays_alone, other_passed, record_passed, record_found, records_past, step_to_passed, step_found, steps_over, steps_most, steps_all}
+use Rattle.collisions.proofs.Searches.{moves_at, moves_placed, moves_meet, moves_pass, stays_alone, other_passed, record_passed, record_found, records_past, step_to_passed, step_found, steps_over, steps_most, steps_all}
 use Rattle.collisions.proofs.exchanges.Goals as goal
 use Rattle.collisions.proofs.exchanges.Goals.{then-a-b, else-a-b, else-cells-k-via-then-cells-k+else-cells-k-2, else-cells-k-via-else-cells-k}
 use Rattle.collisions.proofs.exchanges.Goals.{In-loop-i, In-loop-k}
@@ -20,16 +20,6 @@ steps-init c = (refl, simp unary_clauses)
 pub loop-i-init : goal.loop-i-init
 unfolding exchange
 loop-i-init c = (c.steps.invariant.0, refl)
-
--- this cart's cells are in the array
-this_fits : (c : In-loop-i)
-    → let a = c.args.paths in c.loop-i.i * a.steps + a.steps ≤ a.carts * a.steps
-this_fits c = path_fits c.loop-i.i c.args.paths.carts _ c.loop-i-test.true
-
--- and those of the cart that it is held against
-that_fits : (c : In-loop-k)
-    → let a = c.args.paths in c.loop-k.k * a.steps + a.steps ≤ a.carts * a.steps
-that_fits c = path_fits c.loop-k.k c.args.paths.carts _ (omega arith)
 
 pub loop-k-init : goal.loop-k-init
 loop-k-init c =

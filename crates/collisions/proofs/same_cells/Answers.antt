@@ -1,6 +1,6 @@
 -- `collisions::same_cells` meets its contract. The loops' invariants: nothing was found at the steps passed, nor at this step among the carts
 -- passed, nor for this cart against those passed. Assumes nothing.
-use Prim.Native.Nat.{◌+◌, ◌*◌, ◌≤◌, ◌<◌}
+use Prim.Native.Nat.{◌+◌, ◌<◌}
 use native.Mathlib.Numerals.{unary_clauses}
 use native.Mathlib.Omega.{arith}
 use mathlib.Core.Path.{refl, sym, ◌∙◌}
@@ -8,7 +8,7 @@ use borrow.Author.Tests.{eq-eqb, ne_eqb}
 use lib.Dec.{eqb}
 use Rattle.floor.specs.Paths.{same_cell, steps, first_same_cell}
 use Rattle.collisions.specs.Meetings.{paths_in}
-use Rattle.collisions.proofs.Searches.{path_fits, cells_placed, other_passed, record_passed, record_found, records_past, step_passed, step_found, steps_over, steps_most, steps_all}
+use Rattle.collisions.proofs.Searches.{cells_placed, other_passed, record_passed, record_found, records_past, step_passed, step_found, steps_over, steps_most, steps_all}
 use Rattle.collisions.proofs.same_cells.Goals as goal
 use Rattle.collisions.proofs.same_cells.Goals.{In-loop-i, In-loop-k}
 
@@ -19,16 +19,6 @@ steps-init c = (refl, simp unary_clauses)
 pub loop-i-init : goal.loop-i-init
 unfolding same_cell
 loop-i-init c = (c.steps.invariant.0, refl)
-
--- this cart's cells are in the array
-this_fits : (c : In-loop-i)
-    → let a = c.args.paths in c.loop-i.i * a.steps + a.steps ≤ a.carts * a.steps
-this_fits c = path_fits c.loop-i.i c.args.paths.carts _ c.loop-i-test.true
-
--- and those of the cart that it is held against
-that_fits : (c : In-loop-k)
-    → let a = c.args.paths in c.loop-k.k * a.steps + a.steps ≤ a.carts * a.steps
-that_fits c = path_fits c.loop-k.k c.args.paths.carts _ (omega arith)
 
 pub loop-k-preserved : goal.loop-k-preserved
 loop-k-preserved c =

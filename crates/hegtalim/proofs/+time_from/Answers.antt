@@ -9,14 +9,14 @@ use Rattle.passes.specs.Lending.{lent_of}
 use Rattle.hegtalim.specs.declared.TimeError.{TimeError}
 use Rattle.hegtalim.specs.Working.{Worked}
 use Rattle.hegtalim.proofs.+time_from.Invariants.{turns}
-use Rattle.hegtalim.proofs.TimedPlans.{picked_worked, still_long, then_large}
+use Rattle.hegtalim.proofs.TimedPlans.{picked_worked, then_large}
 use Rattle.hegtalim.proofs.+time_from.Goals as goal
 use Rattle.hegtalim.proofs.+time_from.Goals.{In-Err-TooShort, in-Least, in-Tiny, in-Small, in-Middle}
 
 -- what the pair that was taken gave
-worked : (t : ℕ) (c : In-Err-TooShort t) → Worked 12288 12288 c.args.plan.now (lent_of c.args.lent.now) c.match-room.x (lent_of c.match-room.lent)
+worked : (t : ℕ) (c : In-Err-TooShort t) → Worked 12288 12288 c.args.plan.bytes.now (lent_of c.args.lent.now) c.match-room.x (lent_of c.match-room.lent)
 worked t c =
-    let s = c.args.plan.now in
+    let s = c.args.plan.bytes.now in
     let l = lent_of c.args.lent.now in
     elim c.match-room.branch [
       | in-Least w ↦ picked_worked _ _ s l _ _ _ _ (ap lent_of w.lent-is) w.x-is w.time_with-x.ensures.worked
@@ -38,7 +38,7 @@ turn t c =
 pub time_from-requires : goal.time_from-requires
 time_from-requires t c =
     let short : c.match-room.x ≡ Err TimeError.TooShort = search rules in
-    (omega (arith, turn t (goal.at.time_from-requires t c).In-Err-TooShort), (c.requires.0, still_long _ _ _ _ _ _ (worked t (goal.at.time_from-requires t c).In-Err-TooShort) short c.requires.1))
+    omega (arith, turn t (goal.at.time_from-requires t c).In-Err-TooShort)
 
 pub returns-in-Err-TooShort-clause-timed : goal.returns-in-Err-TooShort-clause-timed
 returns-in-Err-TooShort-clause-timed t c =

@@ -1,6 +1,7 @@
--- `hegtalim::commas_from` meets its contract: it reads what is there, and counts no more than it reads. Assumes nothing.
+-- `hegtalim::commas_from` meets its contract: it counts no more than it reads. Assumes nothing.
 use Prim.Native.Nat.{◌≤◌}
+use mathlib.Core.Path.{◌≡◌}
 use Rattle.hegtalim.proofs.commas_from.Given as goal
 
-abbrev pub invariant-loop-i : goal.invariant-loop-i
-invariant-loop-i l = (l.i ≤ 64) × (l.n ≤ l.i)
+abbrev pub invariant-loop-b : goal.invariant-loop-b
+invariant-loop-b l = (l.n ≤ l.b-index) × (l.b-index ≤ l.b-index-end) × (l.b-index-end ≡ 64)

@@ -2,7 +2,6 @@
 use Rattle.std.specs.Prelude.{Err}
 use Rattle.std.proofs.Common.{rules}
 use Prim.Native.Nat.{ℕ}
-use native.Mathlib.Omega.{arith}
 use mathlib.Core.Path.{◌≡◌, ap, sym, ◌∙◌}
 use mathlib.Core.List.{[]}
 use lib.ListN.{length, replicate, length-replicate}
@@ -13,10 +12,10 @@ use Rattle.slice.proofs.Slice.{judged_fit}
 use Rattle.hegtalim.proofs.Loading.{held_said, loads_short, loads_error, loads_held}
 use Rattle.hegtalim.proofs.load.Goals as goal
 
-pub returns-then-plan-lt233472 : goal.returns-then-plan-lt233472
-returns-then-plan-lt233472 c =
+pub returns-then-plan-lt-PLAN_BYTES : goal.returns-then-plan-lt-PLAN_BYTES
+returns-then-plan-lt-PLAN_BYTES c =
     let a = c.args in
-    let (the-answer, the-left) = loads_short (tables_of a.tables) a.plan.now c.if-plan-lt233472.true in
+    let (the-answer, the-left) = loads_short (tables_of a.tables) a.plan.now c.if-plan-lt-PLAN_BYTES.true in
     record { answer = the-answer; left = the-left }
 
 pub returns-in_err-judge_tables : goal.returns-in_err-judge_tables
@@ -24,19 +23,14 @@ returns-in_err-judge_tables c =
     let a = c.args in
     let zeros : c.fill.new.self ≡ replicate (length a.plan.now) 0 = search rules in
     let e : c.from_residual.result ≡ Err c.in_err-judge_tables.field-0.0 = search rules in
-    let (the-answer, the-left) = loads_error (tables_of a.tables) a.plan.now c.if-plan-lt233472.false _ (sym c.in_err-judge_tables.was ∙ c.judge_tables.ensures) _ zeros in
+    let (the-answer, the-left) = loads_error (tables_of a.tables) a.plan.now c.if-plan-lt-PLAN_BYTES.false _ (sym c.in_err-judge_tables.was ∙ c.judge_tables.ensures) _ zeros in
     record { answer = e ∙ the-answer; left = the-left }
 
-pub store_tables-requires : goal.store_tables-requires
-store_tables-requires c =
-    let a = c.args in
-    let (p, e) = held_said (tables_of a.tables) (sym c.in_ok-judge_tables.was ∙ c.judge_tables.ensures) in
+pub store_tables-requires-clause-roads_len_bound : goal.store_tables-requires-clause-roads_len_bound
+store_tables-requires-clause-roads_len_bound c =
+    let (p, e) = held_said (tables_of c.args.tables) (sym c.in_ok-judge_tables.was ∙ c.judge_tables.ensures) in
     let fit = judged_fit _ p e in
-    let zeros : c.fill.new.self ≡ replicate (length a.plan.now) 0 = search rules in
-    let long : length c.fill.new.self ≡ length a.plan.now = ap length zeros ∙ length-replicate (length a.plan.now) 0 in record {
-      roads_len_bound = (fit.roads_short, fit.carts_short, fit.paths_short);
-      in_bounds = (omega (arith, long, c.if-plan-lt233472.false), zeros ∙ ap (λ (n : ℕ). replicate n 0) (sym long));
-    }
+    (fit.roads_short, fit.carts_short, fit.paths_short)
 
 pub returns : goal.returns
 returns c =
@@ -44,5 +38,5 @@ returns c =
     let ts : Tables = tables_of a.tables in
     let zeros : c.fill.new.self ≡ replicate (length a.plan.now) 0 = search rules in
     let long : length c.fill.new.self ≡ length a.plan.now = ap length zeros ∙ length-replicate (length a.plan.now) 0 in
-    let (the-answer, the-left) = loads_held ts a.plan.now c.if-plan-lt233472.false (sym c.in_ok-judge_tables.was ∙ c.judge_tables.ensures) _ (c.store_tables.ensures ∙ ap (λ (n : ℕ). plan_slice n ts []) long) in
+    let (the-answer, the-left) = loads_held ts a.plan.now c.if-plan-lt-PLAN_BYTES.false (sym c.in_ok-judge_tables.was ∙ c.judge_tables.ensures) _ (c.store_tables.ensures ∙ ap (λ (n : ℕ). plan_slice n ts []) long) in
     record { answer = the-answer; left = the-left }

@@ -1,12 +1,15 @@
 -- `hegtalim::timetable` meets its contract: a slice is too short, or the plan is timed. Assumes nothing.
-use mathlib.Core.Path.{sym, ◌∙◌}
-use Rattle.hegtalim.proofs.TimedPlans.{plan_short, lent_short}
+use Rattle.std.specs.Prelude.{None, Err, Result}
+use Rattle.std.proofs.Common.{rules}
+use Prim.Native.Nat.{ℕ}
+use mathlib.Core.Path.{◌≡◌}
+use Rattle.passes.specs.Lending.{lent_of}
+use Rattle.hegtalim.specs.declared.TimeError.{TimeError}
+use Rattle.hegtalim.proofs.TimedPlans.{plan_short}
 use Rattle.hegtalim.proofs.timetable.Goals as goal
-use Rattle.hegtalim.proofs.timetable.Goals.{then-plan-lt233472-via-then-plan-lt233472, then-plan-lt233472-via-else-plan-lt233472+then-not-is_long_enough}
 
-pub returns-then-plan-lt233472-clause-timed : goal.returns-then-plan-lt233472-clause-timed
-returns-then-plan-lt233472-clause-timed c =
-    elim c.then-plan-lt233472.branch [
-      | then-plan-lt233472-via-then-plan-lt233472 w ↦ plan_short _ _ w.if-plan-lt233472.true
-      | then-plan-lt233472-via-else-plan-lt233472+then-not-is_long_enough w ↦ lent_short _ _ w.if-plan-lt233472.false (sym w.is_long_enough.ensures ∙ w.if-not-is_long_enough.true)
-    ]
+pub returns-in_err-plan-clause-timed : goal.returns-in_err-plan-clause-timed
+returns-in_err-plan-clause-timed c =
+    let none : c.new.result ≡ None = search rules in
+    let e : ◌≡◌ {A = Result ℕ TimeError} c.from_residual.result (Err TimeError.TooShort) = search rules in
+    rw e (plan_short c.args.plan.now (lent_of c.args.lent.now) (c.new.ensures.short none))

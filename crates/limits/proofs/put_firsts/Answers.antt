@@ -7,9 +7,6 @@ use Rattle.limits.proofs.Firsts.{first_written, finish_written, firsts_written}
 use Rattle.limits.proofs.put_firsts.Goals as goal
 use Rattle.limits.proofs.put_firsts.Goals.{After-moves_of}
 
-pub overflow_cast-firsts : goal.overflow_cast-firsts
-overflow_cast-firsts c = let k = c.args.kept.now in omega (arith, c.loop-i.invariant.count, k.counted, k.within)
-
 -- the i-th path has no more moves than all
 few : (c : After-moves_of) → c.loop-i.e + 3 * c.moves_of.result ≤ 4096
 few c =

@@ -3,5 +3,5 @@
 use Rattle.passes.specs.Marks.{finds_times}
 use Rattle.passes.proofs.quick.Goals as goal
 
-pub returns-in-Some : goal.returns-in-Some
-returns-in-Some c = finds_times c.in-Some.passes c.in-Some.ensures
+pub returns-in-Some-clause-found : goal.returns-in-Some-clause-found
+returns-in-Some-clause-found c = finds_times c.in-Some.passes c.in-Some.ensures.settled

@@ -3,10 +3,10 @@
 use Rattle.passes.specs.Marks.{finds_times, finds_cycle}
 use Rattle.passes.proofs.sweep_first.Goals as goal
 
-pub returns-in-Some : goal.returns-in-Some
-returns-in-Some c =
-    let k = c.sweep_until.ensures.kept in
+pub returns-in-Some-clause-found : goal.returns-in-Some-clause-found
+returns-in-Some-clause-found c =
+    let k = c.sweep_until.new.sweeping.kept in
     finds_cycle c.in-Some.at k.parents_long k.coded c.in-Some.ensures.cycle
 
-pub returns : goal.returns
-returns c = finds_times c.in_ok-passes.passes c.in_ok-passes.ensures
+pub returns-clause-found : goal.returns-clause-found
+returns-clause-found c = finds_times c.in_ok-passes.passes c.in_ok-passes.ensures.settled

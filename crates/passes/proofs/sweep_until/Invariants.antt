@@ -1,7 +1,7 @@
--- `passes::sweep_until` meets its contract: sweeps keep what they keep.
+-- `passes::sweep_until` meets its contract: sweeps leave the network as it is.
 -- Assumes nothing.
-use Rattle.passes.specs.Networks.{Kept}
+use mathlib.Core.Path.{◌≡◌}
 use Rattle.passes.proofs.sweep_until.Given as goal
 
 abbrev pub invariant-loop-k : goal.invariant-loop-k
-invariant-loop-k l = Kept l.net l.values l.parents
+invariant-loop-k l = l.sweeping.net.now ≡ l.initial.sweeping.net.now

@@ -11,13 +11,13 @@ use Rattle.printing.proofs.put_output.Goals as goal
 pub returns-in-Err-TooShort : goal.returns-in-Err-TooShort
 returns-in-Err-TooShort c =
     let is : c.load.result ≡ Err LoadError.TooShort = search rules in
-    absurd (said _ c.args.plan.now c.requires.1 c.load.ensures.answer is)
+    absurd (said _ c.args.plan.now c.requires c.load.ensures.answer is)
 
 pub returns-in-Err-Refused : goal.returns-in-Err-Refused
 returns-in-Err-Refused c =
     let is : c.load.result ≡ Err (LoadError.Refused c.in-Err-Refused.why) = search rules in
-    puts_as (said _ c.args.plan.now c.requires.1 c.load.ensures.answer is) c.put_refusal.ensures
+    puts_as (said _ c.args.plan.now c.requires c.load.ensures.answer is) c.put_refusal.ensures
 
 pub returns-in-Ok : goal.returns-in-Ok
 returns-in-Ok c =
-    held_output _ c.args.plan.now c.requires.1 c.load.result c.in-Ok.is c.load.ensures.answer _ c.load.ensures.left (λ x. Puts c.args.out.now x c.put_timed.new.out) c.put_timed.ensures
+    held_output _ c.args.plan.now c.requires c.load.result c.in-Ok.is c.load.ensures.answer _ c.load.ensures.left (λ x. Puts c.args.out.now x c.put_timed.new.out) c.put_timed.ensures

@@ -11,19 +11,14 @@ use Rattle.printing.proofs.put_timed.Goals as goal
 pub returns-in-Err-TooShort : goal.returns-in-Err-TooShort
 returns-in-Err-TooShort c h e =
     let is : c.timetable.result ≡ Err TimeError.TooShort = search rules in
-    absurd (said c.args.plan.now c.requires.1 h e c.timetable.ensures.timed is)
-
-pub returns-in-Err-NoPlan : goal.returns-in-Err-NoPlan
-returns-in-Err-NoPlan c h e =
-    let is : c.timetable.result ≡ Err TimeError.NoPlan = search rules in
-    absurd (said c.args.plan.now c.requires.1 h e c.timetable.ensures.timed is)
+    absurd (said c.args.plan.bytes.now c.args.plan.long h e c.timetable.ensures.timed is)
 
 pub returns-in-Err-NoTimes : goal.returns-in-Err-NoTimes
 unfolding bytes
 returns-in-Err-NoTimes c h e =
     let is : c.timetable.result ≡ Err (TimeError.NoTimes c.in-Err-NoTimes.field-0-0) = search rules in
-    puts_as (none_text ∙ said c.args.plan.now c.requires.1 h e c.timetable.ensures.timed is) c.text.ensures
+    puts_as (none_text ∙ said c.args.plan.bytes.now c.args.plan.long h e c.timetable.ensures.timed is) c.text.ensures
 
 pub returns-in-Ok : goal.returns-in-Ok
 returns-in-Ok c h e =
-    puts_as (said c.args.plan.now c.requires.1 h e c.timetable.ensures.timed c.in-Ok.is) (c.put_plan.ensures h e)
+    puts_as (said c.args.plan.bytes.now c.args.plan.long h e c.timetable.ensures.timed c.in-Ok.is) (c.put_plan.ensures h e)

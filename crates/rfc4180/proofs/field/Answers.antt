@@ -2,9 +2,8 @@
 -- Assumes nothing.
 use Rattle.std.proofs.Common.{◌≡◌, ◌-◌, ◌∙◌, ap, sym, take, drop, length, arith, ◌==◌}
 use Rattle.std.specs.Option.{unwrap_or}
-use Rattle.std.proofs.lemmas.List.{length-take-le, length-drop}
 use Rattle.rfc4180.specs.Records.{field_at}
-use Rattle.rfc4180.proofs.Reading.{rest_is, field_of, field_length_is, or_length, field_over, field_part, field_fits}
+use Rattle.rfc4180.proofs.Reading.{rest_is, field_of, field_length_is, or_length, field_over, field_part}
 use Rattle.rfc4180.proofs.field.Goals as goal
 use Rattle.rfc4180.proofs.field.Goals.{After-unwrap_or-k}
 
@@ -19,12 +18,6 @@ long c =
     let s = take (length r - at) (drop at r) in
     c.unwrap_or-k.ensures ∙ ap (λ o. unwrap_or o (length s)) c.comma.ensures ∙ or_length (λ b. b == 44) s ∙ sym (field_length_is s)
     ∙ ap (λ s. length (field_at s 0)) (rest_is r at) ∙ ap (λ f. length f) (sym (field_of r at))
-
-pub slice_bounds-result-end-2 : goal.slice_bounds-result-end-2
-slice_bounds-result-end-2 c =
-    let r = c.args.row.now in
-    let at = c.args.at in
-    rw (rest_is r at) (sym (length-take-le _ (drop at r) (omega (arith, long (goal.at.slice_bounds-result-end-2 c).After-unwrap_or-k, field_fits r at (omega arith), length-drop at r))))
 
 pub returns : goal.returns
 returns c =

@@ -1,7 +1,7 @@
 -- `rfc4180::parse_number` meets its contract: the digits from here on, after those that make v, give what all of them give.
 -- Assumes nothing.
-use Rattle.std.proofs.Common.{◌<◌, ◌∙◌, sym, arith, lit<}
-use Rattle.rfc4180.proofs.Digits.{decimal_low, decimal_high, decimal_more, decimal_end, number_nil, number_long, number_zero, number_zeros, number_digits, ten_pow, ten_suc}
+use Rattle.std.proofs.Common.{◌∙◌, sym, arith, lit<}
+use Rattle.rfc4180.proofs.Digits.{decimal_low, decimal_high, decimal_more, decimal_end, number_nil, number_long, number_zero, number_zeros, number_digits, ten_suc}
 use Rattle.rfc4180.proofs.parse_number.Goals as goal
 use Rattle.rfc4180.proofs.parse_number.Goals.{then-n-eq0-via-then-n-eq0, then-n-eq0-via-else-n-eq0+then-n-gt10, then-d-lt48-via-then-d-lt48, then-d-lt48-via-else-d-lt48+then-d-gt57}
 
@@ -26,16 +26,6 @@ returns-then-d-lt48 c =
       | then-d-lt48-via-then-d-lt48 w ↦ sym (l.invariant.1 ∙ decimal_low _ l.d-index l.v c.loop-d-test.true w.if-d-lt48.true)
       | then-d-lt48-via-else-d-lt48+then-d-gt57 w ↦ sym (l.invariant.1 ∙ decimal_high _ l.d-index l.v c.loop-d-test.true w.if-d-lt48.false w.if-d-gt57.true)
     ]
-
-pub overflow_mul-v : goal.overflow_mul-v
-overflow_mul-v c =
-    let h : c.loop-d.d-index < 10 = omega arith in
-    omega (arith, ten_pow h)
-
-pub overflow_add-v : goal.overflow_add-v
-overflow_add-v c =
-    let h : c.loop-d.d-index < 10 = omega arith in
-    omega (arith, ten_pow h)
 
 pub loop-d-preserved : goal.loop-d-preserved
 loop-d-preserved c =

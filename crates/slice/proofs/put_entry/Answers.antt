@@ -1,7 +1,4 @@
 -- `slice::put_entry` meets its contract: there is no room for the entry, or it is stored. Assumes nothing.
-use Prim.Native.Nat.{◌+◌}
-use mathlib.Core.Path.{◌∙◌}
-use lib.ListN.{length-set}
 use Rattle.schedule.specs.Book.{◌at◌}
 use Rattle.slice.proofs.Entries.{entry_short, entry_past, entry_put}
 use Rattle.slice.proofs.put_entry.Goals as goal
@@ -11,11 +8,6 @@ returns-then-plan-lt-PLAN_BYTES c = let a = c.args in entry_short a.plan.now a.n
 
 pub returns-then-n-ge-MOST_REPORTS : goal.returns-then-n-ge-MOST_REPORTS
 returns-then-n-ge-MOST_REPORTS c = let a = c.args in entry_past a.plan.now a.n (a.cart at a.time) c.if-n-ge-MOST_REPORTS.true
-
-pub shape_of-plan : goal.shape_of-plan
-shape_of-plan c =
-    let a = c.args in
-    c.put.auto.s ∙ length-set a.plan.now (196_608 + a.n) a.cart
 
 pub returns : goal.returns
 returns c =

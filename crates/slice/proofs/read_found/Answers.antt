@@ -1,16 +1,11 @@
 -- `slice::read_found` meets its contract: the slice is laid out otherwise and gives no plan, or its parts are read. Assumes nothing.
-use Rattle.std.proofs.Common.{rules, ◌≡◌, ◌∙◌, Some, None, Err}
+use Rattle.std.proofs.Common.{rules, ◌≡◌, ◌∙◌, None, Err}
 use Rattle.tables.proofs.TablesRead.{same_self}
 use Rattle.slice.specs.declared.HoldError.{HoldError}
 use Rattle.slice.specs.Holding.{layout, Answer}
 use Rattle.slice.proofs.Holds.{broken_laid}
 use Rattle.slice.proofs.Indexing.{index_unread}
 use Rattle.slice.proofs.read_found.Goals as goal
-
-pub read_parts-requires : goal.read_parts-requires
-read_parts-requires c =
-    let found : Some c.in_ok-layout.layout ≡ layout c.args.plan.bytes.now = search rules in
-    record { layout_is = found; room = c.requires.room }
 
 pub returns-in_err-layout : goal.returns-in_err-layout
 returns-in_err-layout c =

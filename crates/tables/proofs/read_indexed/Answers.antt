@@ -2,7 +2,7 @@
 use Rattle.std.proofs.Common.{rules, ◌≡◌, ◌∙◌, sym, subst, refl, List, ℕ}
 use Rattle.tables.specs.Index.{Indexed, Linked}
 use Rattle.tables.specs.Reading.{roads_read}
-use Rattle.tables.proofs.TablesRead.{index_short, index_there, room_length, roads_none, roads_told}
+use Rattle.tables.proofs.TablesRead.{index_there, room_length, roads_none, roads_told}
 use Rattle.tables.proofs.read_indexed.Goals as goal
 use Rattle.tables.proofs.read_indexed.Goals.{Then-is_ok}
 
@@ -19,9 +19,6 @@ pub copy_from_slice-requires-then-is_ok : goal.copy_from_slice-requires-then-is_
 copy_from_slice-requires-then-is_ok c =
     let (h, n) = room_length c.args.index.now (sym c.has_room.ensures ∙ c.if-not-has_room.false) in
     n ∙ sym (made (goal.at.copy_from_slice-requires-then-is_ok c).Then-is_ok).nexts_long
-
-pub returns-then-not-has_room-clause-index : goal.returns-then-not-has_room-clause-index
-returns-then-not-has_room-clause-index c = index_short _ _ c.args.index.now (sym c.has_room.ensures ∙ c.if-not-has_room.true)
 
 pub returns-then-is_ok-clause-index : goal.returns-then-is_ok-clause-index
 returns-then-is_ok-clause-index c =

@@ -1,6 +1,6 @@
 -- `words::load` meets its contract: the bytes are read one after the other, the last first. Assumes nothing.
 use Rattle.std.proofs.Common.{◌+◌, ◌-◌, ◌<◌, slice_index_or, arith}
-use Rattle.words.proofs.Storing.{bytes_fit, said_none, said_more, said_all}
+use Rattle.words.proofs.Storing.{bytes_fit, said_none, said_more}
 use Rattle.words.proofs.load.Goals as goal
 use Rattle.words.proofs.load.Goals.{In-loop-i}
 
@@ -27,8 +27,3 @@ loop-i-preserved c =
     let l = c.loop-i in
     let b = byte_read (goal.at.loop-i-preserved c).In-loop-i in
     rw c.from.ensures (said_more c.args.s.now c.args.at c.args.k l.i l.x c.requires.0 c.loop-i-test.true b l.invariant)
-
-pub returns : goal.returns
-returns c =
-    let l = c.loop-i in
-    said_all c.args.s.now c.args.at c.args.k l.i l.x (omega arith) l.invariant

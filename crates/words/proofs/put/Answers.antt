@@ -1,23 +1,10 @@
 -- `words::put` meets its contract: a place that is there is stored to. Numbers of no bytes have none. Assumes nothing.
-use Rattle.std.proofs.Common.{arith}
-use Rattle.words.proofs.Storing.{word_stored, word_kept, word_ends, word_of_none}
+use Rattle.words.proofs.Storing.{word_stored, word_kept, word_of_none}
 use Rattle.words.proofs.put.Goals as goal
 use Rattle.words.proofs.put.Goals.{In-Some}
 
 pub returns-in_default : goal.returns-in_default
 returns-in_default g c = word_of_none g.row.K c.args.s.now c.args.i c.args.v (λ p. c.in_default.ensures p)
-
-pub overflow_mul-at : goal.overflow_mul-at
-overflow_mul-at g c =
-    let a = c.args in
-    let e = c.in-Some.ensures in
-    omega (arith, word_ends g.row.K a.s.now a.i e.0 (rw e.1 at c.if-i-count.true))
-
-pub store-requires : goal.store-requires
-store-requires g c =
-    let a = c.args in
-    let e = c.in-Some.ensures in
-    word_ends g.row.K a.s.now a.i e.0 (rw e.1 at c.if-i-count.true)
 
 pub returns-then-i-count : goal.returns-then-i-count
 returns-then-i-count g c =

@@ -1,11 +1,8 @@
 -- `words::store` meets its contract: the bytes are stored one after the other, the least first. Assumes nothing.
-use Rattle.std.proofs.Common.{◌+◌, ◌%◌, refl, sym, ◌∙◌, arith}
+use Rattle.std.proofs.Common.{◌+◌, ◌%◌, sym, ◌∙◌, arith}
 use Rattle.std.proofs.Math.ListN.{length-set}
-use Rattle.words.proofs.Storing.{put_first, put_turn, put_done}
+use Rattle.words.proofs.Storing.{put_turn, put_done}
 use Rattle.words.proofs.store.Goals as goal
-
-pub loop-i-init : goal.loop-i-init
-loop-i-init c = let a = c.args in (omega arith, refl, put_first a.s.now a.at a.k a.v)
 
 pub loop-i-preserved : goal.loop-i-preserved
 loop-i-preserved c =

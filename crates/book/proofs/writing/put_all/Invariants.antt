@@ -4,4 +4,4 @@ use Rattle.book.proofs.Along.{Walking}
 use Rattle.book.proofs.writing.put_all.Given as goal
 
 abbrev pub invariant-loop-i : goal.invariant-loop-i
-invariant-loop-i l = Walking l.marker.firsts l.marker.carts l.marker.clock (log_of l.log) l.initial.out l.out l.k l.n l.i
+invariant-loop-i l = Walking l.marker.firsts l.marker.carts l.reports.clock (log_of l.reports.log) l.initial.out l.out l.n l.i

@@ -3,4 +3,4 @@ use Rattle.book.proofs.Reported.{Reporting}
 use Rattle.book.proofs.writing.put_reported.Given as goal
 
 abbrev pub invariant-loop-i : goal.invariant-loop-i
-invariant-loop-i l = Reporting l.log.carts.now l.log.times.now l.c l.e l.next l.k l.initial.out l.out l.n l.i
+invariant-loop-i l = Reporting l.reports.log.carts.now l.reports.log.times.now l.points.cart l.points.first l.points.next l.initial.out l.out l.event l.i

@@ -32,7 +32,7 @@ invariant_of-links g c =
     let p = d.paths in
     let r = c.fill-row.result in
     record {
-      sized = (c.link.auto.heads, omega (arith, c.fill-row.ensures.count, c.link.auto.nexts, c.requires.room), omega (arith, c.fill-row.ensures.count, c.put_skips.auto.skips, c.requires.room));
+      sized = (c.link.auto.heads, omega (arith, c.fill-row.ensures.count, c.link.auto.nexts, c.requires), omega (arith, c.fill-row.ensures.count, c.put_skips.auto.skips, c.requires));
       grouped = record { linked = linked g (goal.at.invariant_of-links g c).After-link; skipped = c.put_skips.ensures };
       low = numbers_low r.numbers.now r.times.now r.places.now r.n p.carts p.steps p.cells.now d.few.1 d.few.3 c.fill-row.ensures.visits;
     }
@@ -52,7 +52,7 @@ put_orders-requires g c =
     let d = k.grid in
     let p = d.paths in
     let l : length (bounds_of p) ≤ 90112 = orders_numbered p.carts p.steps p.cells.now d.few.0 (omega (arith, k.counted, k.within, d.few)) in
-    record { k_bound = omega (arith, c.requires.k_bound, l, ap (λ (bs : List Bound). length bs) (same g (goal.at.put_orders-requires g c).After-fill-row)) }
+    omega (arith, l, ap (λ (bs : List Bound). length bs) (same g (goal.at.put_orders-requires g c).After-fill-row))
 
 pub returns-clause-value : goal.returns-clause-value
 returns-clause-value g c =
@@ -60,4 +60,4 @@ returns-clause-value g c =
 
 pub returns-clause-put : goal.returns-clause-put
 returns-clause-put g c =
-    subst (Puts c.args.out.now c.put_orders.new.out c.args.k) (same g (goal.at.returns-clause-put g c).After-fill-row) c.put_orders.ensures.put
+    subst (Puts c.args.out.now c.put_orders.new.out) (same g (goal.at.returns-clause-put g c).After-fill-row) c.put_orders.ensures.put

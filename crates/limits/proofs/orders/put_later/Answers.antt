@@ -2,13 +2,13 @@
 -- of the remainder looked for. Assumes nothing.
 use Rattle.std.specs.Prelude.{ℕ, ◌≡◌, ◌+◌, ◌*◌, ◌-◌, ◌%◌, ◌≤◌, ◌<◌, List, [], ◌∷◌, length, get_or}
 use native.Mathlib.Omega.{arith}
-use mathlib.Core.Path.{refl, ap, sym, ◌∙◌, subst}
+use mathlib.Core.Path.{ap, sym, ◌∙◌, subst}
 use Rattle.network.specs.Bounds.{Bound, no_earlier}
 use Rattle.network.specs.declared.BoundArrays.{BoundArrays}
 use Rattle.network.specs.BoundArrays.{Puts}
-use Rattle.network.proofs.Putting.{Putting, putting_first, putting_more, putting_none, putting_count, putting_all}
+use Rattle.network.proofs.Putting.{Putting, putting_first, putting_more, putting_none, putting_all}
 use Rattle.limits.specs.declared.row.Stop.{Stop}
-use Rattle.limits.specs.Counts.{counts, stop_at, stops_in, next_after}
+use Rattle.limits.specs.Counts.{counts, stop_at, stops_in}
 use Rattle.limits.specs.Row.{Entry, later_bounds, bounds_from, entry_at, placed, numbered, entry_in, row_in}
 use Rattle.limits.proofs.Links.{walk_begins}
 use Rattle.limits.proofs.Skips.{skip_fewer, skip_counts, skip_passes}
@@ -31,12 +31,8 @@ loop-left-init c =
     let r = a.row in
     let v : Entry = numbered c.args.v c.at-x.result in
     let (l, q, w) = walk_begins r.numbers.now r.times.now r.places.now a.heads.now a.nexts.now r.n a.grouped.linked v c.from-left.result c.from-left.ensures in
-    record {
-      within = l;
-      here = q;
-      putting = putting_first c.args.out.now c.args.k c.args.k _ _ refl
-          (w ∙ ap (λ (s : Stop). later_bounds (numbered c.args.v s) 0 (row_in r.numbers.now r.times.now r.places.now r.n 0)) c.at-x.ensures);
-    }
+    let same = w ∙ ap (λ (s : Stop). later_bounds (numbered c.args.v s) 0 (row_in r.numbers.now r.times.now r.places.now r.n 0)) c.at-x.ensures in
+    record { within = l; here = q; putting = putting_first c.args.out.now _ _ same; count = omega (arith, ap (λ (bs : List Bound). length bs) same) }
 
 -- so is each that is gone through
 next_low : (c : After-at-y) → c.at-y.result.cart ≤ c.args.links.now.row.n - c.loop-left.left + 1
@@ -52,17 +48,6 @@ entry_event-to-requires c =
 pub overflow_sub-to : goal.overflow_sub-to
 overflow_sub-to c = omega (arith, c.entry_event-to.ensures, next_low (goal.at.overflow_sub-to c).After-at-y)
 
--- the next is that of the definition
-next_is : (c : After-next_after-left)
-    → let a = c.args.links.now in
-    let u = a.row.n - c.loop-left.left in
-    c.next_after-left.result ≡ next_after a.nexts.now a.skips.now u (get_or a.row.numbers.now u 0) c.at-x.result.cart c.if-is_counted.last
-unfolding stop_at
-next_is c =
-    let a = c.args.links.now in
-    let u = a.row.n - c.loop-left.left in
-    c.next_after-left.ensures ∙ ap (λ (s : Stop). next_after a.nexts.now a.skips.now u s.cart c.at-x.result.cart c.if-is_counted.last) c.at-y.ensures
-
 -- fewer visits are left, and the next is of the same remainder
 goes : (c : After-next_after-left)
     → let r = c.args.links.now.row in
@@ -74,7 +59,7 @@ goes c =
     let l = c.loop-left in
     let t : 0 < l.left = c.loop-left-test.true in
     skip_fewer r.numbers.now r.times.now r.places.now a.heads.now a.nexts.now a.skips.now r.n a.grouped (numbered c.args.v c.at-x.result) l.left t l.invariant.within (l.invariant.here t)
-    c.if-is_counted.last c.next_after-left.result (next_is c)
+    c.if-is_counted.last c.next_after-left.result c.next_after-left.ensures
 
 pub loop-left-smaller : goal.loop-left-smaller
 loop-left-smaller c = (goes (goal.at.loop-left-smaller c).After-next_after-left).0
@@ -98,23 +83,24 @@ loop-left-preserved c =
     let to : c.entry_event-to.result - 1 ≡ 3 * u + 3 - 2 * get_or r.numbers.now u 0 - 1 = ap (λ (x : ℕ). x - 1) (c.entry_event-to.ensures ∙ ap (λ (x : ℕ). 3 * u + 3 - 2 * x) y) in
     let (less, same) = goes p in
     elim c.if-is_counted.branch [
-      | then-is_counted w ↦ record {
-        within = omega (arith, less, l.invariant.within);
-        here = same;
-        putting = putting_more l.invariant.putting c.if-is_counted.out c.if-is_counted.m
-            (no_earlier (v.event + 1) (3 * u + 3 - 2 * get_or r.numbers.now u 0 - 1) ∷ []) rest
-            (skip_counts r.numbers.now r.times.now r.places.now a.heads.now a.nexts.now a.skips.now r.n a.grouped v l.left t l.invariant.within (l.invariant.here t) last next (next_is p) l.last (e ∙ w.if-is_counted.true) (w.last-is ∙ y))
-            (subst (λ (bs : List Bound). Puts l.out c.if-is_counted.out l.m bs) (bound_put _ _ _ _ from to) (subst (λ (o : BoundArrays). Puts l.out o l.m _) (sym w.out-is) w.put.ensures))
-            w.m-is;
-      }
-      | else-is_counted w ↦ record {
-        within = omega (arith, less, l.invariant.within);
-        here = same;
-        putting = subst (λ (o : BoundArrays). Putting c.args.out.now o c.args.k c.if-is_counted.m (bounds_from r.numbers.now r.times.now r.places.now r.n c.args.v) rest) (sym w.out-is)
-            (putting_none l.invariant.putting c.if-is_counted.m rest
-            (skip_passes r.numbers.now r.times.now r.places.now a.heads.now a.nexts.now a.skips.now r.n a.grouped v l.left t l.invariant.within (l.invariant.here t) last next (next_is p) l.last (e ∙ w.if-is_counted.false) w.last-is)
-            w.m-is);
-      }
+      | then-is_counted w ↦
+          let more = skip_counts r.numbers.now r.times.now r.places.now a.heads.now a.nexts.now a.skips.now r.n a.grouped v l.left t l.invariant.within (l.invariant.here t) last next p.next_after-left.ensures l.last (e ∙ w.if-is_counted.true) (w.last-is ∙ y) in
+          record {
+            within = omega (arith, less, l.invariant.within);
+            here = same;
+            putting = putting_more l.invariant.putting c.if-is_counted.out (no_earlier (v.event + 1) (3 * u + 3 - 2 * get_or r.numbers.now u 0 - 1) ∷ []) rest more
+                (subst (Puts l.out c.if-is_counted.out) (bound_put _ _ _ _ from to) (subst (λ (o : BoundArrays). Puts l.out o _) (sym w.out-is) w.put.ensures));
+            count = omega (arith, l.invariant.count, w.n-is, ap (λ (bs : List Bound). length bs) more);
+          }
+      | else-is_counted w ↦
+          let none = skip_passes r.numbers.now r.times.now r.places.now a.heads.now a.nexts.now a.skips.now r.n a.grouped v l.left t l.invariant.within (l.invariant.here t) last next p.next_after-left.ensures l.last (e ∙ w.if-is_counted.false) w.last-is in
+          record {
+            within = omega (arith, less, l.invariant.within);
+            here = same;
+            putting = subst (λ (o : BoundArrays). Putting c.args.out.now o (bounds_from r.numbers.now r.times.now r.places.now r.n c.args.v) rest) (sym w.out-is)
+                (putting_none l.invariant.putting rest none);
+            count = omega (arith, l.invariant.count, w.n-is, ap (λ (bs : List Bound). length bs) none);
+          }
     ]
 
 -- none is left
@@ -128,7 +114,7 @@ returns-clause-value c =
     let l = c.loop-left in
     omega (
       arith,
-      putting_count l.invariant.putting,
+      l.invariant.count,
       ap (λ (bs : List Bound). length bs) (none (numbered c.args.v c.at-x.result) l.last r.n l.left r.numbers.now r.times.now r.places.now (omega (arith, c.loop-left-test.false))),
     )
 

@@ -11,5 +11,11 @@ pub returns : goal.returns
 unfolding bound_ends bound_range hi_number hi_kept flat_map
 returns c =
     let a = c.args in
-    let after : c.map_or-after.result ≡ hi_number (hi_kept a.hi) = search rules in
-    record { same_ends = refl; same_ranges = refl; ends = c.put_two.ensures; ranges = c.put_two-2.ensures ∙ ap (λ (n : ℕ). sets a.self.now.ranges.now (2 * a.k) (a.lo ∷ n ∷ [])) after }
+    let after : c.map_or-after.result ≡ hi_number (hi_kept a.bound.hi) = search rules in
+    record {
+      same_ends = refl;
+      same_ranges = refl;
+      ends = c.put_two.ensures;
+      ranges = c.put_two-2.ensures ∙ ap (λ (n : ℕ). sets a.self.now.ranges.now (2 * a.self.now.place) (a.bound.lo ∷ n ∷ [])) after;
+      place = c.saturating_add-self.ensures;
+    }

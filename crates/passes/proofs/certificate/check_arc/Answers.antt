@@ -6,4 +6,4 @@ use Rattle.passes.proofs.BoundChecks.{one_marked}
 use Rattle.passes.proofs.certificate.check_arc.Goals as goal
 
 pub returns-clause-marked : goal.returns-clause-marked
-returns-clause-marked c = one_marked c.args.values.now c.args.marks.now (arc_of c.args.arc) (search rules)
+returns-clause-marked c = one_marked c.args.values.all.now c.args.marks.now (arc_of c.args.arc) (search rules)

@@ -13,10 +13,10 @@ use Rattle.passes.proofs.certificate.check_bound.Goals.{After-check_arc}
 
 -- what the check forward says
 onward : (c : After-check_arc)
-    → let b = bound_of c.args.net.now c.args.i in
-    (c.check_arc.result ≡ true → Allowed (forward b ∷ []) c.args.values.now) × Marks (forward b ∷ []) c.args.values.now c.args.marks.now c.check_arc.new.marks
+    → let b = bound_of c.args.bound.net.now c.args.bound.i in
+    (c.check_arc.result ≡ true → Allowed (forward b ∷ []) c.args.values.all.now) × Marks (forward b ∷ []) c.args.values.all.now c.args.marks.now c.check_arc.new.marks
 onward c =
-    let v = c.args.values.now in
+    let v = c.args.values.all.now in
     let k = c.check_arc in
     let a = arc_of c.forward-arc.result in
     let said : (k.result ≡ true → Allowed (a ∷ []) v) × Marks (a ∷ []) v c.args.marks.now k.new.marks =
@@ -25,7 +25,7 @@ onward c =
 
 pub returns-then-not-check_arc-clause-marked : goal.returns-then-not-check_arc-clause-marked
 returns-then-not-check_arc-clause-marked c =
-    marks_forward c.args.values.now c.args.marks.now c.check_arc.new.marks (bound_of c.args.net.now c.args.i)
+    marks_forward c.args.values.all.now c.args.marks.now c.check_arc.new.marks (bound_of c.args.bound.net.now c.args.bound.i)
     (onward (goal.at.returns-then-not-check_arc-clause-marked c).After-check_arc).1
 
 pub returns-in-None : goal.returns-in-None
@@ -35,10 +35,10 @@ returns-in-None c =
 
 pub returns-in-Some : goal.returns-in-Some
 returns-in-Some c =
-    let v = c.args.values.now in
+    let v = c.args.values.all.now in
     let f = onward (goal.at.returns-in-Some c).After-check_arc in
     let g = c.check_arc-in-Some in
-    let on = forward (bound_of c.args.net.now c.args.i) in
+    let on = forward (bound_of c.args.bound.net.now c.args.bound.i) in
     let back = arc_of c.in-Some.back in
     rw c.in-Some.ensures.0 (record {
       allowed = λ e. both_allowed v on back (f.0 c.if-not-check_arc.false) (one_allowed v back (g.ensures.allowed e));

@@ -4,4 +4,4 @@ use Rattle.passes.proofs.BoundChecks.{Checking}
 use Rattle.passes.proofs.certificate.check_bounds.Given as goal
 
 abbrev pub invariant-loop-i : goal.invariant-loop-i
-invariant-loop-i l = Checking l.net.bounds l.net.ends.now l.net.ranges.now l.values l.initial.marks l.i l.marks
+invariant-loop-i l = Checking l.values.net.now.bounds l.values.net.now.ends.now l.values.net.now.ranges.now l.values.all.now l.initial.marks l.i l.marks

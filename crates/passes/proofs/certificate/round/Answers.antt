@@ -1,13 +1,8 @@
 -- `passes::certificate::round` meets its contract: the values before the one at hand are rounded.
 -- Assumes nothing.
 use native.Mathlib.Omega.{arith}
-use Rattle.passes.proofs.Checks.{lifted_rounded, all_rounded}
+use Rattle.passes.proofs.Checks.{all_rounded}
 use Rattle.passes.proofs.certificate.round.Goals as goal
-
-pub loop-i-preserved : goal.loop-i-preserved
-loop-i-preserved c =
-    lifted_rounded c.loop-i.invariant c.loop-i-test.true c.requires.in_range.0 c.requires.in_range.1 c.lift-x.result c.max-most.result
-    c.lift-x.ensures c.max-most.ensures
 
 pub returns : goal.returns
 returns c =

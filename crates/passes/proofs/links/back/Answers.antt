@@ -13,17 +13,18 @@ pub loop-j-init : goal.loop-j-init
 unfolding repeated
 loop-j-init c = refl
 
-pub of-requires : goal.of-requires
-of-requires c = back_low c.args.parents.now c.args.v c.requires.v_in_bounds c.loop-j._j c.loop-j.x c.loop-j.invariant
+pub invariant_of-here : goal.invariant_of-here
+invariant_of-here c =
+    record { there = back_low c.args.event.parents.now c.args.event.v c.args.event.there c.loop-j._j c.loop-j.x c.loop-j.invariant }
 
 pub unwrap-c-requires : goal.unwrap-c-requires
 unwrap-c-requires c =
-    some_told c.args.parents.now c.loop-j.x c.of.result c.of.ensures
-    (subst (λ (y : ℕ). get_or (ps c.args.parents.now) y None ≢ None) (sym c.loop-j.invariant) (c.requires.trapped.parented c.loop-j._j))
+    some_told c.args.event.parents.now c.loop-j.x c.parent.result c.parent.ensures
+    (subst (λ (y : ℕ). get_or (ps c.args.event.parents.now) y None ≢ None) (sym c.loop-j.invariant) (c.requires.parented c.loop-j._j))
 
 pub loop-j-preserved : goal.loop-j-preserved
 loop-j-preserved c =
-    let p = c.args.parents.now in
+    let p = c.args.event.parents.now in
     c.start_of-x.ensures
-    ∙ back_more p c.args.v c.requires.v_in_bounds c.loop-j._j c.loop-j.x c.loop-j.invariant c.unwrap-c.result
-    (told_some p c.loop-j.x c.unwrap-c.result c.of.result c.of.ensures c.unwrap-c.ensures).0
+    ∙ back_more p c.args.event.v c.args.event.there c.loop-j._j c.loop-j.x c.loop-j.invariant c.unwrap-c.result
+    (told_some p c.loop-j.x c.unwrap-c.result c.parent.result c.parent.ensures c.unwrap-c.ensures).0

@@ -6,4 +6,4 @@ use Rattle.passes.proofs.Backward.{arcs, ps}
 use Rattle.passes.proofs.links.back.Given as goal
 
 abbrev pub invariant-loop-j : goal.invariant-loop-j
-invariant-loop-j l = l.x ≡ steps_back (arcs l.parents) (ps l.parents) l._j l.v
+invariant-loop-j l = l.x ≡ steps_back (arcs l.event.parents.now) (ps l.event.parents.now) l._j l.event.v

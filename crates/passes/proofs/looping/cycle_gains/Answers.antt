@@ -16,32 +16,34 @@ use Rattle.passes.proofs.looping.cycle_gains.Goals.{After-start_of-x}
 
 pub loop-j-init : goal.loop-j-init
 loop-j-init c =
-    let p = c.args.parents.now in
+    let p = c.args.start.parents.now in
     let net = p.net.now in
-    (no_step net.bounds net.ends.now net.ranges.now p.codes.now c.args.start, λ h. absurd (omega arith))
+    (no_step net.bounds net.ends.now net.ranges.now p.codes.now c.args.start.v, λ h. absurd (omega arith))
 
-pub of-requires : goal.of-requires
-of-requires c =
-    let p = c.args.parents.now in
+pub invariant_of-event : goal.invariant_of-event
+invariant_of-event c =
+    let p = c.args.start.parents.now in
     let net = p.net.now in
-    events_below p c.loop-j.x
-    (round_below net.bounds net.ends.now net.ranges.now p.codes.now c.args.start c.loop-j.invariant.0 (codes_fit p) (codes_below p c.args.start c.requires.start))
+    record {
+      there = events_below p c.loop-j.x
+          (round_below net.bounds net.ends.now net.ranges.now p.codes.now c.args.start.v c.loop-j.invariant.0 (codes_fit p) (codes_below p c.args.start.v c.args.start.there));
+    }
 
 pub unwrap-c-requires : goal.unwrap-c-requires
 unwrap-c-requires c =
-    let p = c.args.parents.now in
-    led_told p c.loop-j.x c.of.result c.of.ensures (subst (Led (arcs p) (ps p)) (sym c.loop-j.invariant.0.at) (c.requires.led c.loop-j._j))
+    let p = c.args.start.parents.now in
+    led_told p c.loop-j.x c.parent.result c.parent.ensures (subst (Led (arcs p) (ps p)) (sym c.loop-j.invariant.0.at) (c.requires c.loop-j._j))
 
 -- what a turn leaves
 left : (c : After-start_of-x)
-    → let p = c.args.parents.now in
-    Round p.net.now.bounds p.net.now.ends.now p.net.now.ranges.now p.codes.now c.args.start (c.loop-j._j + 1) c.start_of-x.result c.with_arc-cost.result
+    → let p = c.args.start.parents.now in
+    Round p.net.now.bounds p.net.now.ends.now p.net.now.ranges.now p.codes.now c.args.start.v (c.loop-j._j + 1) c.start_of-x.result c.with_arc-cost.result
 left c =
-    let p = c.args.parents.now in
+    let p = c.args.start.parents.now in
     let net = p.net.now in
-    let e = told_some p c.loop-j.x c.unwrap-c.result c.of.result c.of.ensures c.unwrap-c.ensures in
+    let e = told_some p c.loop-j.x c.unwrap-c.result c.parent.result c.parent.ensures c.unwrap-c.ensures in
     rw c.start_of-x.ensures
-    (round_more net.bounds net.ends.now net.ranges.now p.codes.now c.args.start c.loop-j.invariant.0 net.events c.unwrap-c.result (parent_of p c.loop-j.x c.unwrap-c.result e.0)
+    (round_more net.bounds net.ends.now net.ranges.now p.codes.now c.args.start.v c.loop-j.invariant.0 net.events c.unwrap-c.result (parent_of p c.loop-j.x c.unwrap-c.result e.0)
     c.loop-j.invariant.1 c.with_arc-cost.result (c.with_arc-cost.ensures.lower, c.with_arc-cost.ensures.upper))
 
 -- the cost reads as itself
@@ -53,11 +55,11 @@ seen c =
 
 pub returns-then-x-start : goal.returns-then-x-start
 returns-then-x-start c =
-    let p = c.args.parents.now in
+    let p = c.args.start.parents.now in
     let net = p.net.now in
     let at = goal.at.returns-then-x-start c in
     let few : c.loop-j._j + 1 < length p.codes.now + 1 = omega (arith, p.long) in
-    λ e. round_gains net.bounds net.ends.now net.ranges.now p.codes.now c.args.start (left at.After-start_of-x) (omega arith) (omega arith)
+    λ e. round_gains net.bounds net.ends.now net.ranges.now p.codes.now c.args.start.v (left at.After-start_of-x) (omega arith) (omega arith)
     c.if-x-start.true (rw (seen at.After-start_of-x) at e)
 
 pub loop-j-preserved : goal.loop-j-preserved

@@ -7,5 +7,5 @@ use Rattle.passes.proofs.looping.cycle_gains.Given as goal
 
 abbrev pub invariant-loop-j : goal.invariant-loop-j
 invariant-loop-j l =
-    let net = l.parents.net.now in
-    Round net.bounds net.ends.now net.ranges.now l.parents.codes.now l.start l._j l.x l.cost × (0 < l._j → l.x ≢ l.start)
+    let net = l.start.parents.now.net.now in
+    Round net.bounds net.ends.now net.ranges.now l.start.parents.now.codes.now l.start.v l._j l.x l.cost × (0 < l._j → l.x ≢ l.start.v)

@@ -9,5 +9,5 @@ use Rattle.passes.proofs.looping.led_back.Given as goal
 
 abbrev pub invariant-loop-j : goal.invariant-loop-j
 invariant-loop-j l =
-    (l.x ≡ steps_back (arcs l.parents) (ps l.parents) l._j l.v)
-    × ((i : ℕ) → i < l._j → Led (arcs l.parents) (ps l.parents) (steps_back (arcs l.parents) (ps l.parents) i l.v))
+    (l.x ≡ steps_back (arcs l.event.parents.now) (ps l.event.parents.now) l._j l.event.v)
+    × ((i : ℕ) → i < l._j → Led (arcs l.event.parents.now) (ps l.event.parents.now) (steps_back (arcs l.event.parents.now) (ps l.event.parents.now) i l.event.v))

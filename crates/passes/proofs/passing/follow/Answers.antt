@@ -26,23 +26,23 @@ seen z = to_z w64 (of_z w64 z)
 abbrev item : List ℤ → ℕ → ℤ
 item xs k = get_or xs k (pos 0)
 
-came : (c : Then-from) → item c.args.old.now c.args.arc.from ≢ low
+came : (c : Then-from) → item c.args.old.all.now c.args.arc.from ≢ low
 came c e = c.if-from.true (ap (of_z w64) e)
 
-fits : (c : Then-from) → SFits w64 (item c.args.old.now c.args.arc.from +ℤ c.args.arc.adds)
+fits : (c : Then-from) → SFits w64 (item c.args.old.all.now c.args.arc.from +ℤ c.args.arc.adds)
 fits c =
     let a = c.args in
-    sum_fits a.old.now a.new.now a.parents.now (arc_of a.arc) a.arc.code c.requires.inside.0 c.requires.inside.1 (came c) c.requires.by_index a.arc.small
+    sum_fits a.old.all.now a.new.now a.parents.now (arc_of a.arc) a.arc.code (omega (arith, c.args.old.long, c.requires.0)) c.requires.1 (came c) c.args.old.in_reach a.arc.small
 
 -- each reads as itself
-from_seen : (c : Then-from) → seen (item c.args.old.now c.args.arc.from) ≡ item c.args.old.now c.args.arc.from
-from_seen c = to_z-of_z w64 (item c.args.old.now c.args.arc.from) (record { sfits = omega arith })
+from_seen : (c : Then-from) → seen (item c.args.old.all.now c.args.arc.from) ≡ item c.args.old.all.now c.args.arc.from
+from_seen c = to_z-of_z w64 (item c.args.old.all.now c.args.arc.from) (record { sfits = omega arith })
 
 adds_seen : (c : Then-from) → seen c.args.arc.adds ≡ c.args.arc.adds
 adds_seen c = to_z-of_z w64 c.args.arc.adds (record { sfits = omega (arith, mag_within c.args.arc.adds c.args.arc.small) })
 
-sum_seen : (c : Then-from) → seen (seen (item c.args.old.now c.args.arc.from) +ℤ seen c.args.arc.adds) ≡ item c.args.old.now c.args.arc.from +ℤ c.args.arc.adds
-sum_seen c = rw (from_seen c, adds_seen c) (to_z-of_z w64 (item c.args.old.now c.args.arc.from +ℤ c.args.arc.adds) (fits c))
+sum_seen : (c : Then-from) → seen (seen (item c.args.old.all.now c.args.arc.from) +ℤ seen c.args.arc.adds) ≡ item c.args.old.all.now c.args.arc.from +ℤ c.args.arc.adds
+sum_seen c = rw (from_seen c, adds_seen c) (to_z-of_z w64 (item c.args.old.all.now c.args.arc.from +ℤ c.args.arc.adds) (fits c))
 
 pub overflow_add-sum : goal.overflow_add-sum
 overflow_add-sum c = let f = (goal.at.overflow_add-sum c).Then-from in rw (from_seen f, adds_seen f) (fits f)
@@ -53,8 +53,8 @@ returns-then-at-sum c =
     let a = c.args in
     let s = sum_seen f in
     let at_seen : seen (item a.new.now a.arc.to) ≡ item a.new.now a.arc.to = to_z-of_z w64 (item a.new.now a.arc.to) (record { sfits = omega arith }) in
-    let t : lt_z (item a.new.now a.arc.to) (item a.old.now a.arc.from +ℤ a.arc.adds) ≡ true = rw (at_seen, s) at c.if-at-sum.true in
-    let m = more a.old.now a.new.now a.parents.now (arc_of a.arc) a.arc.code c.requires.inside.0 c.requires.inside.1 (came f) c.requires.by_index a.arc.small t in
+    let t : lt_z (item a.new.now a.arc.to) (item a.old.all.now a.arc.from +ℤ a.arc.adds) ≡ true = rw (at_seen, s) at c.if-at-sum.true in
+    let m = more a.old.all.now a.new.now a.parents.now (arc_of a.arc) a.arc.code (omega (arith, c.args.old.long, c.requires.0)) c.requires.1 (came f) c.args.old.in_reach a.arc.small t in
     record { sums = rw s m.0; adopted = m.1; coded = m.2 }
 
 pub returns-else-at-sum : goal.returns-else-at-sum
@@ -63,13 +63,13 @@ returns-else-at-sum c =
     let a = c.args in
     let s = sum_seen f in
     let at_seen : seen (item a.new.now a.arc.to) ≡ item a.new.now a.arc.to = to_z-of_z w64 (item a.new.now a.arc.to) (record { sfits = omega arith }) in
-    let t : lt_z (item a.new.now a.arc.to) (item a.old.now a.arc.from +ℤ a.arc.adds) ≡ false = rw (at_seen, s) at c.if-at-sum.false in
-    let m = not_more a.old.now a.new.now a.parents.now (arc_of a.arc) a.arc.code c.requires.inside.0 c.requires.inside.1 (came f) c.requires.by_index a.arc.small t in
+    let t : lt_z (item a.new.now a.arc.to) (item a.old.all.now a.arc.from +ℤ a.arc.adds) ≡ false = rw (at_seen, s) at c.if-at-sum.false in
+    let m = not_more a.old.all.now a.new.now a.parents.now (arc_of a.arc) a.arc.code (omega (arith, c.args.old.long, c.requires.0)) c.requires.1 (came f) c.args.old.in_reach a.arc.small t in
     record { sums = m.0; adopted = m.1; coded = m.2 }
 
 pub returns-else-from : goal.returns-else-from
 returns-else-from c =
     let a = c.args in
-    let from_is : seen (item a.old.now a.arc.from) ≡ item a.old.now a.arc.from = to_z-of_z w64 (item a.old.now a.arc.from) (record { sfits = omega arith }) in
-    let m = from_none a.old.now a.new.now a.parents.now (arc_of a.arc) a.arc.code c.requires.inside.0 (sym from_is ∙ ap (to_z w64) c.if-from.false) in
+    let from_is : seen (item a.old.all.now a.arc.from) ≡ item a.old.all.now a.arc.from = to_z-of_z w64 (item a.old.all.now a.arc.from) (record { sfits = omega arith }) in
+    let m = from_none a.old.all.now a.new.now a.parents.now (arc_of a.arc) a.arc.code (omega (arith, c.args.old.long, c.requires.0)) (sym from_is ∙ ap (to_z w64) c.if-from.false) in
     record { sums = m.0; adopted = m.1; coded = m.2 }

@@ -14,12 +14,12 @@ loop-i-init c = none_followed c.args.new.now c.args.parents.now
 
 pub loop-i-preserved : goal.loop-i-preserved
 loop-i-preserved c =
-    let net = c.args.net.now in
+    let net = c.args.old.net.now in
     let t = c.loop-i-test.true in
     bound_followed (bound_of net c.loop-i.i) (place_there net c.loop-i.i t) (bound_there net c.loop-i.i t) c.loop-i.invariant c.follow_bound.ensures
 
 pub returns : goal.returns
 unfolding pass
 returns c =
-    let f = all_followed (omega (arith, bounds_long c.args.net.now)) c.loop-i.invariant in
-    record { sums = rw c.requires.value.1 at f.sums; adopted = rw c.requires.value.1 at f.adopted; coded = f.coded }
+    let f = all_followed (omega (arith, bounds_long c.args.old.net.now)) c.loop-i.invariant in
+    record { sums = rw c.requires.0 at f.sums; adopted = rw c.requires.0 at f.adopted; coded = f.coded }

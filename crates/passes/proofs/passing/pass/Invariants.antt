@@ -8,4 +8,4 @@ use Rattle.passes.specs.Networks.{bounds_of}
 use Rattle.passes.proofs.passing.pass.Given as goal
 
 abbrev pub invariant-loop-i : goal.invariant-loop-i
-invariant-loop-i l = Followed (bounds_of l.net) (flat_map ways (take l.i (bounds_of l.net))) 0 l.old l.initial.new l.new l.initial.parents l.parents
+invariant-loop-i l = Followed (bounds_of l.old.net.now) (flat_map ways (take l.i (bounds_of l.old.net.now))) 0 l.old.all.now l.initial.new l.new l.initial.parents l.parents

@@ -14,8 +14,8 @@ loop-k-init c =
     first_round (bounds_of c.args.net.now) c.args.net.now.events c.args.old.now c.args.new.now c.args.parents.now c.requires.in_bounds
     c.requires.value.0 c.requires.value.1 c.requires.value.2
 
-pub pass-requires-clause-by_index : goal.pass-requires-clause-by_index
-pass-requires-clause-by_index c =
+pub invariant_of-before-clause-in_reach : goal.invariant_of-before-clause-in_reach
+invariant_of-before-clause-in_reach c =
     let net = c.args.net.now in
     in_range c.loop-k.invariant net.all_fit net.few_events
 
@@ -39,11 +39,11 @@ raised c =
     let net = c.args.net.now in
     never c.loop-k.invariant net.some_event net.all_fit (omega (arith, c.requires.in_bounds))
 
-pub back-requires-clause-v_in_bounds : goal.back-requires-clause-v_in_bounds
-back-requires-clause-v_in_bounds c = (raised (goal.at.back-requires-clause-v_in_bounds c).After-loop-k).below
+pub invariant_of-back : goal.invariant_of-back
+invariant_of-back c = record { there = (raised (goal.at.invariant_of-back c).After-loop-k).below }
 
-pub back-requires-clause-trapped : goal.back-requires-clause-trapped
-back-requires-clause-trapped c = (raised (goal.at.back-requires-clause-trapped c).After-loop-k).trapped
+pub back-requires : goal.back-requires
+back-requires c = (raised (goal.at.back-requires c).After-loop-k).trapped
 
 pub returns : goal.returns
 returns c =

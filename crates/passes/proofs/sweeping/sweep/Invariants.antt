@@ -6,4 +6,4 @@ use Rattle.passes.specs.Networks.{Kept}
 use Rattle.passes.proofs.sweeping.sweep.Given as goal
 
 abbrev pub invariant-loop-i : goal.invariant-loop-i
-invariant-loop-i l = Kept l.net l.values l.parents × IfSome l.last (λ i. i < l.count)
+invariant-loop-i l = Kept l.first.net.now l.values l.parents × IfSome l.last (λ i. i < l.first.count)

@@ -1,35 +1,32 @@
 -- `slice::parts::text_length` meets its contract: no block passed has a zero, and the first zero behind them ends the text. Assumes nothing.
-use Rattle.std.proofs.Common.{arith, ◌≡◌, ◌+◌, ◌∙◌, ℕ, List, length, drop, subst, ap, get_or, get_or-take, ◌<◌, ◌≤◌}
+use Rattle.std.proofs.Common.{rules, tests, arith, ◌≡◌, ◌∙◌, ◌+◌, ◌*◌, ◌-◌, ◌/◌, ℕ, List, length, take, drop, ap, sym, subst, min, eqb, take_all, length-drop}
+use Rattle.std.proofs.lemmas.Iterator.{YieldsList-from_slice}
+use Rattle.std.proofs.lemmas.Iterator.Search.{position_from_yields_List}
+use Rattle.std.specs.List.{fold, position, position_or_len}
+use Rattle.std.specs.Simd.{first_chunks}
 use Rattle.slice.specs.PlanSlice.{until_zero}
-use Rattle.slice.proofs.Laid.{text_block, text_short, before_zero}
+use Rattle.slice.proofs.Laid.{found_or, blocks_pass, before_zero, text_short}
 use Rattle.slice.proofs.parts.text_length.Goals as goal
 use Rattle.slice.proofs.parts.text_length.Goals.{After-unwrap_or}
 
-pub loop-block-preserved : goal.loop-block-preserved
-loop-block-preserved c =
-    let rest : List ℕ = c.loop-block.rest.now in
-    let cases = c.in-Some.ensures.cases in
-    let long : 64 ≤ length rest = omega (arith, cases.2) in
-    let more : length (until_zero rest) ≡ 64 + length (until_zero (drop 64 rest)) =
-    text_block 64 rest long
-    (λ j h. subst (λ (n : ℕ). 0 < n) (get_or-take 64 rest j 0 h) (subst (λ (x : List ℕ). 0 < get_or x j 0) cases.0 (c.has_zero.ensures c.if-has_zero.false j h))) in
-    let behind : length (until_zero c.in-Some.behind.now) ≡ length (until_zero (drop 64 rest)) = ap (λ (x : List ℕ). length (until_zero x)) cases.1 in
-    record {
-      shorter = omega (arith, c.loop-block.invariant.shorter, cases.2);
-      passed = omega (arith, c.loop-block.invariant.passed, cases.2, more, behind);
-    }
-
--- how many bytes stand before the first zero of the rest
-last : (c : After-unwrap_or) → c.unwrap_or.result ≡ length (until_zero c.loop-block.rest.now)
-last c = c.unwrap_or.ensures ∙ before_zero c.loop-block.rest.now c.first_zero.result c.first_zero.ensures
-
-pub overflow_add-result : goal.overflow_add-result
-overflow_add-result c =
-    omega (arith, c.loop-block.invariant.shorter, last (goal.at.overflow_add-result c).After-unwrap_or, text_short c.loop-block.rest.now)
+-- the bytes of the blocks passed are all of the text
+passed : (c : After-unwrap_or) → let s = c.args.s.now in let at = 64 * c.unwrap_or-passed.result in length (until_zero s) ≡ at + length (until_zero (drop at s))
+passed c =
+    let s : List ℕ = c.args.s.now in
+    let blocks : List (List ℕ) = c.as_chunks.result.0.now in
+    let found : c.position.result ≡ position (λ (b : List ℕ). eqb (fold min 255 b) 0) blocks =
+    position_from_yields_List (λ (b : List ℕ). eqb (fold min 255 b) 0) _ _ _ c.position.ensures.ran (YieldsList-from_slice blocks cc) (λ x b q k. search (rules, tests)) in
+    let many : c.unwrap_or-passed.result ≡ position_or_len (λ (b : List ℕ). eqb (fold min 255 b) 0) (first_chunks 64 (length s / 64) s) =
+    c.unwrap_or-passed.ensures ∙ found_or (λ (b : List ℕ). eqb (fold min 255 b) 0) blocks c.position.result found
+    ∙ ap (λ (bs : List (List ℕ)). position_or_len (λ (b : List ℕ). eqb (fold min 255 b) 0) bs) c.as_chunks.ensures.front in
+    subst (λ (n : ℕ). length (until_zero s) ≡ 64 * n + length (until_zero (drop (64 * n) s))) (sym many) (blocks_pass (length s / 64) s (omega arith)).1
 
 pub returns : goal.returns
 returns c =
-    let e = last (goal.at.returns c).After-unwrap_or in record {
-      value = omega (arith, c.loop-block.invariant.passed, c.loop-block.invariant.shorter, e);
-      within = omega (arith, c.loop-block.invariant.shorter, e, text_short c.loop-block.rest.now);
-    }
+    let s : List ℕ = c.args.s.now in
+    let at : ℕ = 64 * c.unwrap_or-passed.result in
+    let rest : List ℕ = take (length s - at) (drop at s) in
+    let last : c.unwrap_or.result ≡ length (until_zero rest) = c.unwrap_or.ensures ∙ before_zero rest c.first_zero.result c.first_zero.ensures in
+    let whole : rest ≡ drop at s = take_all (length s - at) (drop at s) (omega (arith, length-drop at s)) in
+    let all : at + c.unwrap_or.result ≡ length (until_zero s) = omega (arith, last, ap (λ (x : List ℕ). length (until_zero x)) whole, passed (goal.at.returns c).After-unwrap_or) in
+    record { value = all; within = omega (arith, all, text_short s) }

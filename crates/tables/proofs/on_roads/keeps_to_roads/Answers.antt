@@ -1,29 +1,31 @@
--- `tables::on_roads::keeps_to_roads` meets its contract. The loop's invariant: the path keeps to the roads if it does from the last step passed on.
+-- `tables::on_roads::keeps_to_roads` meets its contract. The loop's invariant: the path keeps to the roads if it does over the steps left.
 -- Assumes nothing.
-use native.Mathlib.Omega.{arith}
+use Rattle.std.proofs.Common.{rules}
+use Rattle.std.specs.Slice.Iter.{windows_rest}
 use mathlib.Core.Bool.{not}
-use mathlib.Core.Path.{refl, ap, sym, ◌∙◌}
-use Rattle.tables.proofs.Searches.{step_off, step_on, step_stays, steps_past}
+use mathlib.Core.Path.{ap, sym, ◌∙◌}
+use Rattle.tables.proofs.Searches.{Stepped, step_off, step_on, step_stays, steps_past}
 use Rattle.tables.proofs.on_roads.keeps_to_roads.Goals as goal
-use Rattle.tables.proofs.on_roads.keeps_to_roads.Goals.{else-a-b-via-then-a-b+else-not-join, else-a-b-via-else-a-b}
+use Rattle.tables.proofs.on_roads.keeps_to_roads.Goals.{In-Some, else-step-via-then-step+else-not-join, else-step-via-else-step}
 
-pub loop-s-init : goal.loop-s-init
-loop-s-init c = refl
+-- two cells next to each other
+stepped : (c : In-Some) → Stepped (windows_rest c.loop-step.step-iterator) c.in-Some.step.now (windows_rest c.next.new.self)
+stepped c = search rules
 
 pub returns-then-not-join : goal.returns-then-not-join
 returns-then-not-join c =
-    let a = c.args in
-    sym (c.loop-s.invariant ∙ step_off _ a.cells.now a.at a.w c.loop-s.s (omega arith) (omega arith) (omega arith) c.if-a-b.true c.join.ensures (ap not c.if-not-join.true))
+    sym (c.loop-step.invariant.left ∙ step_off _ (stepped (goal.at.returns-then-not-join c).In-Some) c.if-step.true c.join.ensures (ap not c.if-not-join.true))
 
-pub loop-s-preserved : goal.loop-s-preserved
-loop-s-preserved c =
-    let a = c.args in
-    c.loop-s.invariant ∙ elim c.else-a-b.branch [
-      | else-a-b-via-then-a-b+else-not-join w ↦ step_on _ a.cells.now a.at a.w c.loop-s.s (omega arith) (omega arith) (omega arith) w.join.ensures (ap not w.if-not-join.false)
-      | else-a-b-via-else-a-b w ↦ step_stays _ a.cells.now a.at a.w c.loop-s.s (omega arith) (omega arith) (omega arith) w.if-a-b.false
-    ]
+pub loop-step-preserved : goal.loop-step-preserved
+loop-step-preserved c =
+    let next = stepped (goal.at.loop-step-preserved c).In-Some in
+    record {
+      pairs = search rules;
+      left = c.loop-step.invariant.left ∙ elim c.else-step.branch [
+        | else-step-via-then-step+else-not-join w ↦ step_on _ next w.join.ensures (ap not w.if-not-join.false)
+        | else-step-via-else-step w ↦ step_stays _ next w.if-step.false
+      ];
+    }
 
 pub returns : goal.returns
-returns c =
-    let a = c.args in
-    sym (c.loop-s.invariant ∙ steps_past _ a.cells.now a.at a.w c.loop-s.s (omega arith))
+returns c = sym (c.loop-step.invariant.left ∙ steps_past _ _ (search rules))

@@ -1,8 +1,7 @@
 -- `tables::on_roads::off_roads` meets its contract. The loop's invariant: the paths passed over keep to the roads.
 -- Assumes nothing.
 use Prim.Native.Nat.{◌+◌, ◌*◌, ◌≤◌}
-use native.Mathlib.Nat.{add-mul, one-mul, zero-mul}
-use native.Mathlib.Numerals.{unary_clauses}
+use native.Mathlib.Nat.{add-mul, one-mul}
 use native.Mathlib.Omega.{arith}
 use mathlib.Core.Path.{ap, sym, ◌∙◌}
 use Rattle.tables.proofs.Searches.{path_fits, path_on, path_off, paths_past}
@@ -10,18 +9,9 @@ use mathlib.Core.Bool.{not}
 use Rattle.tables.proofs.on_roads.off_roads.Goals as goal
 use Rattle.tables.proofs.on_roads.off_roads.Goals.{In-loop-i}
 
-pub loop-i-init : goal.loop-i-init
-loop-i-init c = rw (zero-mul c.args.paths.steps) (simp unary_clauses)
-
 -- this path's cells are in the array
 this_fits : (c : In-loop-i) → let p = c.args.paths in c.loop-i.i * p.steps + p.steps ≤ p.carts * p.steps
 this_fits c = let p = c.args.paths in path_fits c.loop-i.i p.carts p.steps c.loop-i-test.true
-
-pub overflow_mul-i : goal.overflow_mul-i
-overflow_mul-i c = omega (arith, this_fits (goal.at.overflow_mul-i c).In-loop-i)
-
-pub keeps_to_roads-requires : goal.keeps_to_roads-requires
-keeps_to_roads-requires c = omega (arith, this_fits (goal.at.keeps_to_roads-requires c).In-loop-i)
 
 pub returns-then-not-keeps_to_roads : goal.returns-then-not-keeps_to_roads
 returns-then-not-keeps_to_roads c =

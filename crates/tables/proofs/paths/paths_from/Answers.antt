@@ -5,14 +5,11 @@ use Rattle.std.proofs.Common.{rules, ◌≡◌, refl, sym, ap, ◌∙◌, Err, O
 use Rattle.floor.specs.declared.Table.TheVariants.{Paths}
 use Rattle.std.proofs.iter.Serving.{serving}
 use Rattle.tables.proofs.Turns.{refused_why}
-use Rattle.tables.proofs.PathTurns.{first_path_turn, turn_cells, turn_count, last_path_turn, refused_path_turn, taken_path_turn}
+use Rattle.tables.proofs.PathTurns.{first_path_turn, turn_count, last_path_turn, refused_path_turn, taken_path_turn}
 use Rattle.tables.proofs.paths.paths_from.Goals as goal
 
 pub loop-row-init : goal.loop-row-init
 loop-row-init c = rw c.into_iter-row-iterator.ensures.into_iter_gives (refl, first_path_turn _ _ c.requires.1)
-
-pub take_path-requires : goal.take_path-requires
-take_path-requires c = (turn_cells _ _ _ _ _ _ c.loop-row.invariant.1, omega (arith, c.loop-row.invariant.0, c.requires.0))
 
 pub map_err-requires : goal.map_err-requires
 map_err-requires c = let few = turn_count _ _ _ _ _ _ c.loop-row.invariant.1 in grind (serving, few)
@@ -31,7 +28,7 @@ overflow_add-n c = omega (arith, turn_count _ _ _ _ _ _ c.loop-row.invariant.1)
 pub loop-row-preserved : goal.loop-row-preserved
 loop-row-preserved c = let taken : c.take_path.result ≡ Ok c.in_ok-w.w = search rules in (
   c.take_path.auto.cells ∙ c.loop-row.invariant.0,
-  taken_path_turn _ _ _ _ _ _ c.loop-row.invariant.1 _ _ c.in-Some.ensures.steps c.in_ok-w.w _ c.requires.0 (sym taken ∙ c.take_path.ensures.answer) c.take_path.ensures.left,
+  taken_path_turn _ _ _ _ _ _ c.loop-row.invariant.1 _ _ c.in-Some.ensures.steps c.in_ok-w.w _ c.requires.0 c.loop-row.invariant.0 (sym taken ∙ c.take_path.ensures.answer) c.take_path.ensures.left,
 )
 
 pub returns : goal.returns

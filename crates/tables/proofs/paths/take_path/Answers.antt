@@ -22,30 +22,30 @@ pub returns-in_err-numbers : goal.returns-in_err-numbers
 returns-in_err-numbers c =
     let none : None ≡ option_map counted (numbers (fields c.args.row.now)) = search rules in
     let is : ◌≡◌ {A = PathTaken} c.from_residual.result (Err Layout) = search rules in
-    let (the-answer, the-left) = take_malformed c.args.n _ _ _ c.requires none _ in
+    let (the-answer, the-left) = take_malformed c.args.n _ _ _ c.requires.1 none _ in
     record { answer = is ∙ the-answer; left = the-left }
 
 pub returns-then-m-w : goal.returns-then-m-w
 returns-then-m-w c =
-    let (the-answer, the-left) = take_other c.args.n _ _ _ c.requires c.in_ok-numbers.numbers.count c.in_ok-numbers.numbers.greatest (there (goal.at.returns-then-m-w c).In_ok-numbers) c.if-n-ne0.true c.if-m-w.true _ in
+    let (the-answer, the-left) = take_other c.args.n _ _ _ c.requires.1 c.in_ok-numbers.numbers.count c.in_ok-numbers.numbers.greatest (there (goal.at.returns-then-m-w c).In_ok-numbers) c.if-n-ne0.true c.if-m-w.true _ in
     record { answer = the-answer; left = the-left }
 
 pub returns-then-numbers-gt65534 : goal.returns-then-numbers-gt65534
 returns-then-numbers-gt65534 c =
-    let (the-answer, the-left) = take_range c.args.n _ _ _ c.requires c.in_ok-numbers.numbers.count c.in_ok-numbers.numbers.greatest (there (goal.at.returns-then-numbers-gt65534 c).In_ok-numbers) (as_many (goal.at.returns-then-numbers-gt65534 c).Joined-else-n-ne0) c.if-numbers-gt65534.true _ in
+    let (the-answer, the-left) = take_range c.args.n _ _ _ c.requires.1 c.in_ok-numbers.numbers.count c.in_ok-numbers.numbers.greatest (there (goal.at.returns-then-numbers-gt65534 c).In_ok-numbers) (as_many (goal.at.returns-then-numbers-gt65534 c).Joined-else-n-ne0) c.if-numbers-gt65534.true _ in
     record { answer = the-answer; left = the-left }
 
 pub returns-then-m-gt1024 : goal.returns-then-m-gt1024
 returns-then-m-gt1024 c =
-    let (the-answer, the-left) = take_long c.args.n _ _ _ c.requires c.in_ok-numbers.numbers.count c.in_ok-numbers.numbers.greatest (there (goal.at.returns-then-m-gt1024 c).In_ok-numbers) (as_many (goal.at.returns-then-m-gt1024 c).Joined-else-n-ne0) c.if-numbers-gt65534.false c.if-m-gt1024.true _ in
+    let (the-answer, the-left) = take_long c.args.n _ _ _ c.requires.1 c.in_ok-numbers.numbers.count c.in_ok-numbers.numbers.greatest (there (goal.at.returns-then-m-gt1024 c).In_ok-numbers) (as_many (goal.at.returns-then-m-gt1024 c).Joined-else-n-ne0) c.if-numbers-gt65534.false c.if-m-gt1024.true _ in
     record { answer = the-answer; left = the-left }
 
 pub returns-then-base-m-gt8192 : goal.returns-then-base-m-gt8192
 returns-then-base-m-gt8192 c =
-    let (the-answer, the-left) = take_over c.args.n _ _ _ c.requires c.in_ok-numbers.numbers.count c.in_ok-numbers.numbers.greatest (there (goal.at.returns-then-base-m-gt8192 c).In_ok-numbers) (as_many (goal.at.returns-then-base-m-gt8192 c).Joined-else-n-ne0) c.if-numbers-gt65534.false c.if-m-gt1024.false c.if-base-m-gt8192.true _ in
+    let (the-answer, the-left) = take_over c.args.n _ _ _ c.requires.1 c.in_ok-numbers.numbers.count c.in_ok-numbers.numbers.greatest (there (goal.at.returns-then-base-m-gt8192 c).In_ok-numbers) (as_many (goal.at.returns-then-base-m-gt8192 c).Joined-else-n-ne0) c.if-numbers-gt65534.false c.if-m-gt1024.false c.if-base-m-gt8192.true _ in
     record { answer = the-answer; left = the-left }
 
 pub returns : goal.returns
 returns c =
-    let (the-answer, the-left) = take_kept c.args.n _ _ _ c.requires c.in_ok-numbers.numbers.count c.in_ok-numbers.numbers.greatest (there (goal.at.returns c).In_ok-numbers) (as_many (goal.at.returns c).Joined-else-n-ne0) c.if-numbers-gt65534.false c.if-m-gt1024.false c.if-base-m-gt8192.false _ c.read_numbers.ensures.left in
+    let (the-answer, the-left) = take_kept c.args.n _ _ _ c.requires.1 c.in_ok-numbers.numbers.count c.in_ok-numbers.numbers.greatest (there (goal.at.returns c).In_ok-numbers) (as_many (goal.at.returns c).Joined-else-n-ne0) c.if-numbers-gt65534.false c.if-m-gt1024.false c.if-base-m-gt8192.false _ c.read_numbers.ensures.left in
     record { answer = the-answer; left = the-left }

@@ -17,15 +17,6 @@ four_stores s i a b l m =
     let three : i + 3 ≡ suc (suc (suc i)) = omega arith in
     rw (one, two, three)
 
-pub bounds-roads-n-2 : goal.bounds-roads-n-2
-bounds-roads-n-2 c = simp length-set (omega arith)
-
-pub bounds-roads-n-3 : goal.bounds-roads-n-3
-bounds-roads-n-3 c = simp length-set (omega arith)
-
-pub bounds-roads-n-4 : goal.bounds-roads-n-4
-bounds-roads-n-4 c = simp length-set (omega arith)
-
 pub returns : goal.returns
 unfolding road_numbers
 returns c =

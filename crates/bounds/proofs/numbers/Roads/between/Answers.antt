@@ -1,5 +1,5 @@
 -- `bounds::numbers::Roads::between` meets its contract: the first road that joins the cells is among those left, or else it was met last. Assumes nothing.
-use Rattle.std.proofs.Common.{◌≡◌, sym, subst, Bool, true, length, eq-eqb, get_or, ◌-◌}
+use Rattle.std.proofs.Common.{◌≡◌, sym, subst, Bool, true, length, eq-eqb, ◌-◌}
 use borrow.Author.Tests.{ne_eqb}
 use Rattle.std.specs.Prelude.{None}
 use Rattle.floor.specs.Plan.{road_between}

@@ -2,7 +2,8 @@
 use Rattle.std.proofs.Common.{rules}
 use mathlib.Core.Path.{◌≡◌, sym, subst}
 use Rattle.std.specs.Slice.Iter.{windows_rest}
-use Rattle.printing.proofs.PathSteps.{OnPath, Stepped, first_room, path_begins, path_waits, path_few, path_room, path_moves, path_ends}
+use Rattle.bounds.proofs.Moves.{Stepped}
+use Rattle.printing.proofs.PathSteps.{OnPath, path_begins, path_waits, path_few, path_moves, path_ends}
 use Rattle.printing.proofs.events.Lines.path.Goals as goal
 use Rattle.printing.proofs.events.Lines.path.Goals.{In-Some}
 
@@ -10,20 +11,14 @@ use Rattle.printing.proofs.events.Lines.path.Goals.{In-Some}
 stepped : (c : In-Some) → Stepped (windows_rest c.loop-step.step-iterator) c.in-Some.step.now (windows_rest c.next.new.self)
 stepped c = search rules
 
-pub point-requires-clause-room : goal.point-requires-clause-room
-point-requires-clause-room c = first_room c.args.self.now c.args.cart c.args.path.now c.requires.some c.requires.room
-
 pub loop-step-init : goal.loop-step-init
 loop-step-init c =
     let a = c.args in
     let whole : windows_rest c.into_iter-step-iterator.result ≡ a.path.now = search rules in
     record { pairs = search rules; path = subst (OnPath a.self.now a.cart a.path.now c.point.new.self) (sym whole) (path_begins a.self.now a.cart a.path.now c.point.new.self c.requires.some c.point.ensures) }
 
-pub moves-requires-clause-few : goal.moves-requires-clause-few
-moves-requires-clause-few c = path_few c.loop-step.invariant.path (stepped (goal.at.moves-requires-clause-few c).In-Some) c.if-step.true c.requires.few
-
-pub moves-requires-clause-room : goal.moves-requires-clause-room
-moves-requires-clause-room c = path_room c.loop-step.invariant.path (stepped (goal.at.moves-requires-clause-room c).In-Some) c.if-step.true c.requires.room
+pub moves-requires : goal.moves-requires
+moves-requires c = path_few c.loop-step.invariant.path (stepped (goal.at.moves-requires c).In-Some) c.if-step.true c.requires.few
 
 pub loop-step-preserved-then-step : goal.loop-step-preserved-then-step
 loop-step-preserved-then-step c =

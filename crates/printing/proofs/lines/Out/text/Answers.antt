@@ -6,4 +6,4 @@ use Rattle.printing.proofs.Puts.{text_puts}
 use Rattle.printing.proofs.lines.Out.text.Goals as goal
 
 pub returns : goal.returns
-returns c = text_puts c.args.self.now _ _ c.args.text.now _ refl refl refl (search rules) (omega arith) c.requires
+returns c = text_puts c.args.self.now _ c.min-n.result _ c.args.text.now _ c.min-n.ensures refl refl refl (search rules) (omega arith)

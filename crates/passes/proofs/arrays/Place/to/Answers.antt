@@ -1,0 +1,7 @@
+-- `passes::arrays::Place::to` meets its contract: the bound fits.
+-- Assumes nothing.
+use Rattle.passes.proofs.Networks.{fits}
+use Rattle.passes.proofs.arrays.Place.to.Goals as goal
+
+pub returns-clause-below : goal.returns-clause-below
+returns-clause-below c = rw c.from.ensures (fits c.args.self.net.now c.args.self.i c.args.self.there).to_in

@@ -1,7 +1,0 @@
--- `passes::parents::Parents::of` meets its contract: a number is the code of an arc, or 0 for none.
--- Assumes nothing.
-use Rattle.passes.proofs.Backward.{told}
-use Rattle.passes.proofs.parents.Parents.of.Goals as goal
-
-pub returns : goal.returns
-returns c = told c.args.self.now c.args.x c.checked_sub.result (rw c.from.ensures at c.checked_sub.ensures)
