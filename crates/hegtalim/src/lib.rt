@@ -88,6 +88,16 @@ impl From<HoldError> for TimeError {
     }
 }
 
+// Copies bytes to a slice that is as long. Not by `copy_from_slice`: for that a C program would have to bring a `memmove`.
+fn copy(from: &[u8], to: &mut [u8])
+    requires { length to.old ≡ length from.now }
+    ensures { to.new ≡ from.now }
+{
+    for (i, byte) in from.iter().enumerate() {
+        to[i] = *byte;
+    }
+}
+
 // Writes the tables into a slice of zeros, each to its place.
 fn store_tables(tables: Tables, plan: &mut [u8])
     requires roads_len_bound { (length tables.roads.now ≤ TABLE_BYTES) × (length tables.carts.now ≤ TABLE_BYTES) × (length tables.paths.now ≤ TABLE_BYTES) }
@@ -99,9 +109,9 @@ fn store_tables(tables: Tables, plan: &mut [u8])
         carts,
         paths,
     } = tables;
-    plan[..roads.len()].copy_from_slice(roads);
-    plan[CARTS_AT..CARTS_AT + carts.len()].copy_from_slice(carts);
-    plan[PATHS_AT..PATHS_AT + paths.len()].copy_from_slice(paths);
+    copy(roads, &mut plan[..roads.len()]);
+    copy(carts, &mut plan[CARTS_AT..CARTS_AT + carts.len()]);
+    copy(paths, &mut plan[PATHS_AT..PATHS_AT + paths.len()]);
 }
 
 // Reads the tables and leaves the cells of the paths. The other arrays go with this call, so that no more memory is held than is needed.
@@ -134,8 +144,8 @@ fn judge_tables(tables: Tables) -> Result<(), LoadError>
 
 // Loads a plan: three tables in, a plan held or the refusal.
 pub fn load(tables: Tables, plan: &mut [u8]) -> Result<(), LoadError>
-    ensures answer { result ≡ (load (tables_of tables.entry) plan.old).answer }
-    ensures left { plan.new ≡ (load (tables_of tables.entry) plan.old).plan }
+    ensures answer { result ≡ (load (record { roads = tables.entry.roads.now; carts = tables.entry.carts.now; paths = tables.entry.paths.now }) plan.old).answer }
+    ensures left { plan.new ≡ (load (record { roads = tables.entry.roads.now; carts = tables.entry.carts.now; paths = tables.entry.paths.now }) plan.old).plan }
 {
     if plan.len() < PLAN_BYTES {
         return Err(LoadError::TooShort);
@@ -232,65 +242,64 @@ fn commas(plan: PlanSlice, blocks: usize) -> u32
 // How many there are in a table of paths of at most 4,096 bytes, behind which stand zeros: few blocks are looked at where the table is short. No plan has
 // more moves than that.
 fn most_moves(plan: PlanSlice) -> u32 {
-    for blocks in [1usize, 2, 4, 8, 16, 32] {
+    let mut blocks: usize = 1;
+    // a `while`: an edit can hold it to one place for ever, and is refused
+    while blocks < 64 {
         if plan.bytes[PATHS_AT + 64 * blocks] == 0 {
             return commas(plan, blocks);
         }
+        blocks = 2 * blocks;
     }
     commas(plan, 64)
 }
 
-// The arrays in which a plan is timed: of how many numbers, 24,576 for any plan.
-#[derive(Clone, Copy, Debug, PartialEq, Eq)]
-enum Room {
-    Least,
-    Tiny,
-    Small,
-    Middle,
-    Any,
-}
-
-// In which arrays a plan is tried first, by how many moves it can have. A move takes six bounds, three of them added, and more than two order bounds besides
-// have room there. Where there are at most 14 commas all bounds have room. Many moves are not tried.
-fn first_room(plan: PlanSlice) -> Room {
+// By how many moves the arrays are chosen in which a plan is tried first: at least as many as it can have. From 701 on, as for a longer table, it is tried in
+// those for any plan alone.
+fn first_moves(plan: PlanSlice) -> u32 {
     if plan.bytes[PATHS_AT + 4096] != 0 {
-        return Room::Any;
+        return 701;
     }
-    match most_moves(plan) {
-        0..=14 => Room::Least,
-        15..=80 => Room::Tiny,
-        81..=300 => Room::Small,
-        301..=700 => Room::Middle,
-        _ => Room::Any,
-    }
+    most_moves(plan)
 }
 
-// The times of the plan that a slice holds, or a chain, in these arrays. What has no room in shorter ones is done again in those for any plan. The function
-// calls itself: otherwise the compiler would put the arrays of all sizes into one frame, and a small plan too would touch each of its pages.
-fn time_from(plan: PlanSlice, room: Room, lent: &mut Lent) -> Result<usize, TimeError>
+// The times of the plan that a slice holds, or a chain, in arrays for a plan of so many moves: those with 24,576 numbers are for any. A move takes six bounds,
+// three of them added, and more than two order bounds besides have room in the shorter ones; up to 14 all bounds have. What has no room there is done again in
+// those for any plan. The function calls itself, by a number that the compiler does not know: otherwise it would put the arrays of all sizes into one frame,
+// and each call would touch all of its pages.
+fn time_from(plan: PlanSlice, moves: u32, lent: &mut Lent) -> Result<usize, TimeError>
     ensures timed { Timetabled plan.entry.bytes.now (lent_of lent.old) result (lent_of lent.new) }
     ensures same { SameSlices lent.old lent.new }
 {
-    let x = match room {
-        Room::Least => time_with::<256>(plan, lent),
-        Room::Tiny => time_with::<1536>(plan, lent),
-        Room::Small => time_with::<5120>(plan, lent),
-        Room::Middle => time_with::<12288>(plan, lent),
-        Room::Any => return time_with::<24576>(plan, lent),
+    if 700 < moves {
+        return time_with::<24576>(plan, lent);
+    }
+    let x = match moves {
+        0..=14 => time_with::<256>(plan, lent),
+        15..=80 => time_with::<1536>(plan, lent),
+        81..=300 => time_with::<5120>(plan, lent),
+        _ => time_with::<12288>(plan, lent),
     };
     match x {
-        Err(TimeError::TooShort) => time_from(plan, Room::Any, lent),
+        Err(TimeError::TooShort) => time_from(plan, moves + 701, lent),
         _ => x,
     }
 }
 
 // Times a plan: earliest times and the number of passes, or a chain. Shorter arrays are tried first where the table of paths is short.
 pub fn timetable(plan: &[u8], lent: &mut Lent) -> Result<usize, TimeError>
-    ensures timed { Timetabled plan.now (lent_of lent.old) result (lent_of lent.new) }
-    ensures same { SameSlices lent.old lent.new }
+    ensures timed { Timetabled plan.now
+        (record { times = lent.old.times.now; chain_bounds = lent.old.chain_bounds.now; chain_directions = lent.old.chain_directions.now })
+        result
+        (record { times = lent.new.times.now; chain_bounds = lent.new.chain_bounds.now; chain_directions = lent.new.chain_directions.now }) }
+    ensures same { (lent.new.times.ghost_name ≡ lent.old.times.ghost_name) × (lent.new.chain_bounds.ghost_name ≡ lent.old.chain_bounds.ghost_name)
+        × (lent.new.chain_directions.ghost_name ≡ lent.old.chain_directions.ghost_name) }
 {
     let plan = PlanSlice::new(plan).ok_or(TimeError::TooShort)?;
-    time_from(plan, first_room(plan), lent)
+    // before any array is cleared
+    if !lent.is_long_enough() {
+        return Err(TimeError::TooShort);
+    }
+    time_from(plan, first_moves(plan), lent)
 }
 
 // `load` for a program in C.

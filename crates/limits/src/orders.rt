@@ -68,6 +68,8 @@ fn put_later(links: &Links, v: usize, out: &mut BoundArrays) -> usize
     ensures value { result ≡ length (visit_bounds links.now.row v) }
     ensures put { Puts out.old out.new (visit_bounds links.now.row v) }
 {
+    // a copy stays in registers: behind a reference, where the links are would be read again at each visit
+    let links = *links;
     let row = links.row;
     let x = row.at(v);
     let from = entry_event(v, x.cart) + 1;

@@ -85,8 +85,8 @@ fn put_output(out: &mut Out, tables: Tables, plan: &mut [u8])
 
 // Prints the times of the plan that three tables come to, or the refusal; how many bytes are printed, where there is room for any.
 pub fn print(tables: Tables, out: &mut [u8]) -> Option<usize>
-    ensures answer { result ≡ (print (tables_of tables.entry) out.old).answer }
-    ensures left { out.new ≡ (print (tables_of tables.entry) out.old).out }
+    ensures answer { result ≡ (print (record { roads = tables.entry.roads.now; carts = tables.entry.carts.now; paths = tables.entry.paths.now }) out.old).answer }
+    ensures left { out.new ≡ (print (record { roads = tables.entry.roads.now; carts = tables.entry.carts.now; paths = tables.entry.paths.now }) out.old).out }
 {
     if out.len() < 348_245 {
         return None;

@@ -25,7 +25,9 @@ fn read_full(file: &mut impl Read, table: &mut [u8]) -> usize
 }
 
 // Reads a file into a table, and returns what was read; a file that can't be opened counts as zero bytes.
-fn read_table<'t>(files: &impl Files, path: &str, table: &'t mut [u8]) -> &'t [u8] {
+fn read_table<'t>(files: &impl Files, path: &str, table: &'t mut [u8]) -> &'t [u8]
+    ensures { length result.now ≤ length table.old }
+{
     let Ok(mut file) = fs::open(files, path) else {
         return &[];
     };
