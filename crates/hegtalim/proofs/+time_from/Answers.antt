@@ -19,7 +19,7 @@ worked t c =
     elim c.if-moves-lt15.branch [
       | in-0-to-14 w ↦ picked_worked _ _ s l _ _ _ _ (ap lent_of w.lent-is) w.x-is w.time_with-x.ensures.worked
       | in-15-to-80 w ↦ picked_worked _ _ s l _ _ _ _ (ap lent_of w.lent-is) w.x-is w.time_with-x-in-15-to-80.ensures.worked
-      | in-81-to-300 w ↦ picked_worked _ _ s l _ _ _ _ (ap lent_of w.lent-is) w.x-is w.time_with-x-in-81-to-300.ensures.worked
+      | in-81-to-300 w ↦ picked_worked _ _ s l _ _ _ _ (search rules) w.x-is w.time_with-x-in-81-to-300.ensures.worked
       | in_default w ↦ picked_worked _ _ s l _ _ _ _ (ap lent_of w.lent-is) w.x-is w.time_with-x-in_default.ensures.worked
     ]
 
