@@ -181,7 +181,7 @@ module _ (ps : Paths) (log : Log) (carts : ℕ) (fs counts : List ℕ) (clock : 
 -- ---- without a book
 
 -- no report is accepted
-pub none_checked : (p : Plan) (o : Option Book) (r : Report) → o ≡ None → Err NoPoint ≡ checked p o r
+pub none_checked : (p : Plan) (o : Option Book) (r : Report) → o ≡ None → Err (NoPoint false) ≡ checked p o r
 unfolding checked
 none_checked p o r e = ap (λ (x : Option Book). checked p x r) (sym e)
 

@@ -38,13 +38,13 @@ unfoldable pub is_book : Option Book → Bool
 is_book None = false
 is_book (Some b) = true
 
--- what is said of a report by whether its cart has a point to pass, no 11, and whether its time is in order, no 12
+-- what is said of a report: whether its cart has a point to pass, no 11, and whether its time is in order, no 12
 unfoldable pub answered : Bool → Bool → Result (Unit {0}) ReportError
-answered next timely = cond next (cond timely (Ok tt) (Err BadTime)) (Err NoPoint)
+answered next timely = cond next (cond timely (Ok tt) (Err BadTime)) (Err (NoPoint timely))
 
--- what the book says of it, if there is one
+-- what the book says of it, if there is one: whether it is no 11, and whether it is no 12
 unfoldable pub checked : Plan → Option Book → Report → Result (Unit {0}) ReportError
-checked p None r = Err NoPoint
+checked p None r = Err (NoPoint false)
 checked p (Some b) r = answered (has_next p b r) (in_time b r)
 
 -- the bounds that it adds

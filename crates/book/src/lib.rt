@@ -24,10 +24,10 @@ pub struct Log<'a> {
     pub times: &'a [u8],
 }
 
-// Why a report is not accepted: its cart has no point still to be passed, or its time is out of order.
+// Why a report is not accepted: its cart has no point still to be passed, and whether its time is in order all the same; or its time is out of order.
 #[derive(Clone, Copy, Debug, PartialEq, Eq)]
 pub enum ReportError {
-    NoPoint,
+    NoPoint { timely: bool },
     BadTime,
 }
 
@@ -39,12 +39,12 @@ pub fn accepts(paths: Paths, log: Log) -> bool
     Marker::read(paths, log).is_some()
 }
 
-// What the book of a log says of a further report; where there is none, no cart has a point to pass.
+// What the book of a log says of a further report; where there is none, no cart has a point to pass, and no time is in order.
 pub fn check_report(paths: Paths, log: Log, cart: u64, time: u64) -> Result<(), ReportError>
     ensures { result ≡ checked (plan_of paths.entry) (book_of paths.entry log.entry) (cart at time) }
 {
     let Some(marker) = Marker::read(paths, log) else {
-        return Err(ReportError::NoPoint);
+        return Err(ReportError::NoPoint { timely: false });
     };
     marker.check(cart as usize, time)
 }

@@ -49,10 +49,11 @@ impl Marker {
     pub(crate) fn check(&self, c: usize, t: u64) -> Result<(), ReportError>
         ensures { result ≡ answered (next_fits self.now.firsts self.now.carts self.now.counts c) (time_fits self.now.clock t) }
     {
+        let timely = self.in_time(t);
         if !self.has_next(c) {
-            return Err(ReportError::NoPoint);
+            return Err(ReportError::NoPoint { timely });
         }
-        if !self.in_time(t) {
+        if !timely {
             return Err(ReportError::BadTime);
         }
         Ok(())

@@ -119,8 +119,8 @@ module _ (s : List ℕ) (c t : ℕ) (x : Answer) (is : x ≡ (read_slice s blank
         by : (i j : Bool) → has_next h.plan h.book r ≡ i → in_time h.book r ≡ j → (why : BookError) → answered i j ≡ Err why → Leaves s r (Err (not_taken why)) s
         by true true ei ej why z = absurd (cc)
         by true false ei ej BookError.BadTime z = leaves s r (record { answer = (Err ReportError.BadTime); plan = s }) (outcome true false ei ej)
-        by true false ei ej BookError.NoPoint z = absurd (cc)
-        by false j ei ej BookError.NoPoint z = leaves s r (record { answer = (Err ReportError.NoPoint); plan = s }) (outcome false j ei ej)
+        by true false ei ej (BookError.NoPoint u) z = absurd (cc)
+        by false j ei ej (BookError.NoPoint u) z = leaves s r (record { answer = (Err ReportError.NoPoint); plan = s }) (outcome false j ei ej)
         by false j ei ej BookError.BadTime z = absurd (cc)
 
     -- the report is one entry more

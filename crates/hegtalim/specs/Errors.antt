@@ -11,7 +11,7 @@ not_held HoldError.TooShort = ReportError.TooShort
 not_held HoldError.NoPlan = ReportError.NoPlan
 
 unfoldable pub not_taken : BookError → ReportError
-not_taken BookError.NoPoint = ReportError.NoPoint
+not_taken (BookError.NoPoint timely) = ReportError.NoPoint
 not_taken BookError.BadTime = ReportError.BadTime
 
 -- a timetable, by the reader of the slice

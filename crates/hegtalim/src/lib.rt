@@ -70,7 +70,7 @@ impl From<BookError> for ReportError {
     #[tactic(auto, unfolding(crate::specs::Errors::not_taken))]
     fn from(why: BookError) -> ReportError {
         match why {
-            BookError::NoPoint => ReportError::NoPoint,
+            BookError::NoPoint { .. } => ReportError::NoPoint,
             BookError::BadTime => ReportError::BadTime,
         }
     }
