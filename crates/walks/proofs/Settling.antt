@@ -12,7 +12,7 @@ use Rattle.laws.proofs.Options.{none-ne-some, some-injective}
 use Rattle.walks.specs.Walks.{Arc, Walk, stay, go, WalkWithin}
 use Rattle.walks.specs.Passes.{Sums, pass, sums, pass_number, Settled, settled}
 use Rattle.walks.specs.Solutions.{Between}
-use Rattle.walks.proofs.Greatest.{AtLeast, EndsBelow, none_greater, some_equal}
+use Rattle.walks.proofs.Greatest.{AtLeast, at_least, EndsBelow, raise_all_keeps, none_greater, some_equal}
 use Rattle.walks.proofs.PassNumber.{first_is, agree_eq, agrees_of}
 use Rattle.laws.proofs.Signed.{signed, sum}
 
@@ -23,6 +23,19 @@ ends_below arcs n b a m = (b a m).1
 -- what stands there is one value
 pub one_value : (o : Option ℤ) (x y : ℤ) → o ≡ Some x → o ≡ Some y → x ≡ y
 one_value o x y e f = some-injective _ _ (sym e ∙ f)
+
+-- ---- the sums grow
+
+-- what is at least w after k passes is so after one more
+pass_keeps : (arcs : List Arc) (n k v : ℕ) (w : ℤ) → AtLeast (get_or (sums arcs n k) v None) w → AtLeast (get_or (sums arcs n (suc k)) v None) w
+unfolding sums pass
+pass_keeps arcs n k v w h = raise_all_keeps (sums arcs n k) arcs (sums arcs n k) v w h
+
+-- a sum after j passes is there after k, and no less
+pub sums_grow : (arcs : List Arc) (n j k v : ℕ) (x : ℤ) → j ≤ k → get_or (sums arcs n j) v None ≡ Some x → AtLeast (get_or (sums arcs n k) v None) x
+sums_grow arcs n j k v x h e =
+    le_ind (λ m. AtLeast (get_or (sums arcs n m) v None) x) (subst (λ (o : Option ℤ). AtLeast o x) (sym e) (at_least x x (omega signed)))
+    (λ m _ a. pass_keeps arcs n m v x a) k h
 
 -- ---- sums that stay
 
