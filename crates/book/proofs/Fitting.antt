@@ -160,7 +160,7 @@ module _ (ps : Paths) (log : Log) (carts : ℕ) (fs counts : List ℕ) (clock : 
 
   -- what the writer of them asks for
   pub firsts_apart : (i : ℕ) → i < carts → get_or fs i 0 < get_or fs (i + 1) 0
-  firsts_apart = firsts_rise (plan_of ps) carts fs k.firsts_are
+  firsts_apart i h = (firsts_rise (plan_of ps) carts fs k.firsts_are i h).0
 
   pub times_low : (c x : ℕ) → Memᴰ x (times_of c (log_of log)) → x ≤ 1_000_000_000_000
   times_low = times_most (plan_of ps) (first_book (plan_of ps)) k.book (log_of log) k.replays

@@ -53,6 +53,23 @@ numbers_along (c ∷ cs) (p ∷ ps) j e =
       subst (Along (routes (suc j) f cs ps)) (sym next) (numbers_along cs ps (suc j) f),
     )
 
+-- none is past the last
+numbers_most : (cs : List Cart) (ps : List (List ℕ)) (j e i : ℕ) → get_or (numbers j e cs ps) i 0 ≤ e + length (flat_map route_points (routes j e cs ps))
+unfolding routes flat_map route_points
+numbers_most [] ps j e zero = omega arith
+numbers_most [] ps j e (suc i) = omega arith
+numbers_most (c ∷ cs) [] j e zero = omega arith
+numbers_most (c ∷ cs) [] j e (suc i) = omega arith
+numbers_most (c ∷ cs) (p ∷ ps) j e zero = omega arith
+numbers_most (c ∷ cs) (p ∷ ps) j e (suc i) =
+    let f : ℕ = e + length (points (visits_of p)) in
+    let rest : List Route = routes (suc j) f cs ps in
+    let later : get_or (numbers (suc j) f cs ps) i 0 ≤ f + length (flat_map route_points rest) = numbers_most cs ps (suc j) f i in
+    let next : get_or (drop 1 (numbers j e (c ∷ cs) (p ∷ ps))) i 0 ≡ get_or (numbers (suc j) f cs ps) i 0 = ap (λ (l : List ℕ). get_or l i 0) (numbers_next c cs p ps j e) in
+    let most : get_or (drop 1 (numbers j e (c ∷ cs) (p ∷ ps))) i 0 ≤ e + length (points (visits_of p) ++ flat_map route_points rest) =
+    omega (arith, later, next, length-append (points (visits_of p)) (flat_map route_points rest)) in
+    most
+
 -- a plan's
 pub first_events_are : (p : Plan) → first_events p ≡ numbers 1 1 p.carts p.paths
 unfolding first_events routes_of finish_event
@@ -97,12 +114,21 @@ module _ (p : Plan) (carts : ℕ) (firsts : List ℕ) (f : Firsts p carts firsts
       ∙ along_at (routes_of p) (first_events p) i (first_events_along p) inside
       ∙ ap (λ (n : ℕ). n + get_or (map (λ (r : Route). length (route_points r)) (routes_of p)) i 0) (sym (first_at i (omega arith)))
 
-  -- they rise
-  pub firsts_rise : (i : ℕ) → i < carts → get_or firsts i 0 < get_or firsts (i + 1) 0
+  -- none is over 4,096
+  first_most : (i : ℕ) → i ≤ carts → get_or firsts i 0 ≤ 4096
+  unfolding routes_of
+  first_most i h =
+      let far : get_or firsts i 0 ≤ 1 + length (flat_map route_points (routes 1 1 p.carts p.paths)) =
+      subst (λ (n : ℕ). n ≤ 1 + length (flat_map route_points (routes 1 1 p.carts p.paths)))
+      (sym (first_at i h ∙ ap (λ (l : List ℕ). get_or l i 0) (first_events_are p))) (numbers_most p.carts p.paths 1 1 i) in
+      omega (arith, far, event_count_is p, f.few)
+
+  -- and they rise
+  pub firsts_rise : (i : ℕ) → i < carts → (get_or firsts i 0 < get_or firsts (i + 1) 0) × (get_or firsts (i + 1) 0 ≤ 4096)
   unfolding points_of
   firsts_rise i h =
       let back : i + 1 - 1 ≡ i = omega arith in
       let between : get_or firsts (i + 1) 0 ≡ get_or firsts (i + 1 - 1) 0 + points_of p (i + 1) = points_between (i + 1) (omega arith) (omega arith) in
       let some : 1 ≤ points_of p (i + 1) = point_there (routes_of p) (i + 1 - 1) f.have_points (omega (arith, f.routes_are)) in
       let same : get_or firsts (i + 1 - 1) 0 ≡ get_or firsts i 0 = ap (λ (n : ℕ). get_or firsts n 0) back in
-      omega arith
+      (omega arith, first_most (i + 1) (omega arith))
