@@ -1,7 +1,7 @@
 // Bounds in arrays. The events and bounds of a plan are defined in specs/.
 #![tactic(auto)]
 
-ghost use Rattle.std.specs.Prelude.{◌≡◌, [], ◌∷◌, ◌*◌, ◌^◌, ◌≤◌, ◌<◌, length};
+ghost use Rattle.std.specs.Prelude.{◌≡◌, [], ◌∷◌, ◌*◌, ◌^◌, ◌≤◌, ◌<◌, length, min};
 ghost use Rattle.std.proofs.lemmas.List.Edits.{sets};
 
 // A bound in numbers: the events that it goes from and to, and its range.
@@ -51,4 +51,14 @@ impl<'a> BoundArrays<'a> {
         put_two(self.ranges, self.place, bound.lo, after);
         self.place = self.place.saturating_add(1);
     }
+}
+
+// Where the part of an array begins that is behind k bounds: at its end, if they would fill it.
+pub fn behind(k: usize, length: usize) -> usize
+    ensures { result ≡ min (2 * k) length }
+{
+    if k <= length / 2 {
+        return 2 * k;
+    }
+    length
 }
