@@ -15,7 +15,15 @@ use lib.ListN.{take-append-drop}
 use Rattle.words.specs.Words.{word_at}
 use Rattle.printing.specs.declared.lines.Out.{Out}
 use Rattle.printing.specs.declared.events.Lines.{Lines}
-use Rattle.printing.specs.Lines.{Puts, ByEvent, text_at, Prints}
+use Rattle.printing.specs.Lines.{Put, Puts, ByEvent, text_at, Prints}
+
+-- a piece behind another
+pub put_then : {s : List ℕ} {at : ℕ} {a t : List ℕ} {m : ℕ} {b u : List ℕ} {k : ℕ} → Put s at a t m → Put t m b u k → Put s at (a ++ b) u k
+put_then {s} {at} {a} {t} {m} {b} {u} {k} p q =
+    record {
+      stored = q.stored ∙ ap (λ (x : List ℕ). sets x m b) p.stored ∙ ap (λ (n : ℕ). sets (sets s at a) n b) p.behind ∙ sym (sets_append a b s at);
+      behind = omega (arith, p.behind, q.behind, length-append a b);
+    }
 
 module _ {o p : Out} where
   -- the same text by another name

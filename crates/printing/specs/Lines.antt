@@ -9,6 +9,11 @@ use Rattle.printing.specs.declared.lines.Out.{Out}
 use Rattle.printing.specs.declared.events.Lines.{Lines}
 use Rattle.printing.specs.Text.{shown}
 
+-- some bytes are put into the slice s from place `at` on: t is the slice then, and k the place behind them
+pub record Put (s : List ℕ) (at : ℕ) (text t : List ℕ) (k : ℕ) : Type 0 where
+  pub stored : t ≡ sets s at text
+  pub behind : k ≡ at + length text
+
 -- a text is put into the slice o behind what is there, as far as there is room: the slice is p then, the same one, of the same length
 pub record Puts (o : Out) (text : List ℕ) (p : Out) : Type 0 where
   pub same : p.bytes.ghost_name ≡ o.bytes.ghost_name
