@@ -120,7 +120,9 @@ fn by_passes(net: &Network, sums: &mut [i64], room: &mut Room) -> Solved
 
 // Over how many bounds the first sweep goes: over the plan's own where what a log adds begins with [0, none], as before any report, since such bounds
 // raise nothing that travel does not; else over all.
-fn first_count(net: &Network) -> usize {
+fn first_count(net: &Network) -> usize
+    ensures { result ≤ net.now.bounds }
+{
     if net.own < net.bounds {
         let added = Place {
             net: &*net,
