@@ -17,7 +17,7 @@ mod sums;
 mod sweeping;
 mod values;
 
-ghost use Rattle.std.specs.Prelude.{◌≡◌, IfSome, ◌*◌, ◌≤◌, length, map};
+ghost use Rattle.std.specs.Prelude.{◌≡◌, None, IfSome, ◌*◌, ◌≤◌, length, map};
 ghost use mathlib.Core.List.{flat_map};
 ghost use Rattle.words.specs.Words.{words, written};
 ghost use Rattle.walks.specs.Passes.{settled};
@@ -155,10 +155,12 @@ fn sweep_until(sweeping: &mut Sweeping, count: usize) -> Option<usize>
     None
 }
 
-// How many passes are believed of values, which become times: where they are a certificate, whatever the parents are.
+// How many passes are believed of values, which become times: where they are a certificate, whatever the parents are; else they stay. The parents stay.
 fn believe(sweeping: &mut Sweeping) -> Option<usize>
     ensures settled { let net = sweeping.new.net.now in
         IfSome result (λ k. settled (flat_map ways (bounds_of net)) net.events ≡ Some (record { passes = k; sums = sums_in sweeping.new.values.now })) }
+    ensures stay { result ≡ None → sweeping.new.values.now ≡ sweeping.old.values.now }
+    ensures parents { sweeping.new.parents.now ≡ sweeping.old.parents.now }
     ensures same { sweeping.new.net.now ≡ sweeping.old.net.now }
 {
     if !certificate::is_certificate(sweeping.read_values()) {
