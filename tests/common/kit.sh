@@ -8,11 +8,12 @@ below() { # CRATE
     sed -n -E "s/^$1( staticlib)?: *//p" crates.txt
 }
 
-# the words for the kit's rattle, run in the folder of a library or of a copy of it, over the libraries of the crates below it: those that rt has left in out/,
-# and the kit's own
+# the words for the kit's rattle, run in the folder of a crate or of a copy of it, over the libraries of the crates below it: those that rt has left in out/, and
+# the kit's own
 crate_words() { # CRATE
-    local name
-    printf '%s\n' --crate-name "$1" src/lib.rt --extern "std=$kit/rlibs/std.rlib" -L "dependency=$kit/rlibs"
+    local name root=src/lib.rt
+    if [ -f "crates/$1/src/main.rt" ]; then root=src/main.rt; fi
+    printf '%s\n' --crate-name "$1" "$root" --extern "std=$kit/rlibs/std.rlib" -L "dependency=$kit/rlibs"
     for name in $(below "$1"); do
         if [ -d "crates/$name" ]; then
             printf '%s\n' --extern "$name=$PWD/crates/$name/out/rlib/$name.rlib" -L "dependency=$PWD/crates/$name/out/rlib"
