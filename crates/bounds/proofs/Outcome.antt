@@ -2,18 +2,16 @@
 use Rattle.std.specs.Prelude.{Option, None, Some, Result, Err, is_err, List, ℕ, ◌*◌, ◌≤◌, ◌<◌, Bool, true, false}
 use mathlib.Core.Path.{◌≡◌, refl, ap, sym, ◌∙◌, subst}
 use lib.ListN.{length, replicate}
-use lib.Seq.{sets}
+use lib.Seq.{sets, length-sets}
 use mathlib.Core.List.{flat_map}
 use borrow.Author.Tests.{le-leb, lt-leb}
-use Rattle.network.specs.BoundArrays.{bound_ends, bound_range, Puts}
-use Rattle.network.specs.declared.BoundArrays.{BoundArrays}
-use Rattle.network.proofs.Putting.{puts_long}
+use Rattle.network.specs.BoundArrays.{bound_ends, bound_range}
 use Rattle.network.specs.Bounds.{Bound}
 use Rattle.schedule.specs.Added.{all_bounds}
 use Rattle.slice.specs.declared.HoldError.{HoldError}
 use Rattle.slice.specs.PlanSlice.{plan_need, Held, held}
 use Rattle.bounds.specs.declared.Bounding.{Bounding}
-use Rattle.bounds.specs.Bounding.{bounding_fits, bounding_held, bounding, bounding_answer, bounds_left, bounding_left, Leaves}
+use Rattle.bounds.specs.Bounding.{bounding_fits, bounding_held, bounding, bounding_answer, bounds_left, bounding_left, LeavesIn}
 
 -- what is answered and left of arrays
 abbrev pub Ends : List ℕ → List ℕ → List ℕ → Result Bounding HoldError → List ℕ → List ℕ → Type 0
@@ -34,7 +32,7 @@ module _ (s : List ℕ) where
         left_ranges = sym (ap (λ (t : Bool). bounding_left bound_range t (held s) ranges) short);
       }
 
-  module _ (h : plan_need ≤ length s) (x : Result Bounding HoldError) (a b : BoundArrays) (front : a.place ≡ 0) (x-is : x ≡ bounding (held s)) (w : Leaves (held s) a b) where
+  module _ (h : plan_need ≤ length s) (x : Result Bounding HoldError) (e0 r0 e1 r1 : List ℕ) (x-is : x ≡ bounding (held s)) (w : LeavesIn (held s) e0 r0 e1 r1) where
     long : bounding_fits s ≡ true
     unfolding bounding_fits
     long = le-leb plan_need (length s) h
@@ -66,24 +64,24 @@ module _ (s : List ℕ) where
     left_by g o f e t q = q ∙ ap (λ (i : Option Held). bounds_left g i e) (sym f) ∙ sym (ap (λ (i : Bool). bounding_left g i (held s) e) long)
 
     -- no plan, and the arrays are cleared
-    pub cleared_plan : is_err x ≡ true → (ends ranges e r : List ℕ) → ends ≡ b.ends.now → ranges ≡ b.ranges.now → e ≡ replicate (length ends) 0 → r ≡ replicate (length ranges) 0 → Ends s a.ends.now a.ranges.now x e r
+    pub cleared_plan : is_err x ≡ true → (ends ranges e r : List ℕ) → ends ≡ e1 → ranges ≡ r1 → e ≡ replicate (length ends) 0 → r ≡ replicate (length ranges) 0 → Ends s e0 r0 x e r
     unfolding bounds_left
     cleared_plan q ends ranges e r te tr ee er =
-        let (le, lr) = puts_long a b w.written w.puts in record {
+        let le : length e1 ≡ length e0 = ap length w.left ∙ length-sets e0 0 (flat_map bound_ends w.written) in
+        let lr : length r1 ≡ length r0 = ap length w.left_ranges ∙ length-sets r0 0 (flat_map bound_range w.written) in record {
           answer = answer;
           left = left_by bound_ends None (none q) _ _ (ee ∙ ap (λ (n : ℕ). replicate n 0) (ap length te ∙ le));
           left_ranges = left_by bound_range None (none q) _ _ (er ∙ ap (λ (n : ℕ). replicate n 0) (ap length tr ∙ lr));
         }
 
     -- a plan, and its bounds are there
-    pub written_plan : is_err x ≡ false → (e r : List ℕ) → e ≡ b.ends.now → r ≡ b.ranges.now → Ends s a.ends.now a.ranges.now x e r
+    pub written_plan : is_err x ≡ false → (e r : List ℕ) → e ≡ e1 → r ≡ r1 → Ends s e0 r0 x e r
     unfolding bounds_left
     written_plan q ends ranges te tr =
         let (k, e) = some q in
-        let p : Puts a b (all_bounds k.plan k.book) = subst (Puts a b) (w.are k e) w.puts in
-        let first : (g : Bound → List ℕ) (l : List ℕ) → sets l (2 * a.place) (flat_map g (all_bounds k.plan k.book)) ≡ sets l 0 (flat_map g (all_bounds k.plan k.book)) =
-        λ g l. ap (λ (n : ℕ). sets l (2 * n) (flat_map g (all_bounds k.plan k.book))) front in record {
+        let all : (g : Bound → List ℕ) (l : List ℕ) → sets l 0 (flat_map g w.written) ≡ sets l 0 (flat_map g (all_bounds k.plan k.book)) =
+        λ g l. ap (λ (bs : List Bound). sets l 0 (flat_map g bs)) (w.are k e) in record {
           answer = answer;
-          left = left_by bound_ends (Some k) e _ _ (te ∙ p.ends ∙ first bound_ends a.ends.now);
-          left_ranges = left_by bound_range (Some k) e _ _ (tr ∙ p.ranges ∙ first bound_range a.ranges.now);
+          left = left_by bound_ends (Some k) e _ _ (te ∙ w.left ∙ all bound_ends e0);
+          left_ranges = left_by bound_range (Some k) e _ _ (tr ∙ w.left_ranges ∙ all bound_range r0);
         }

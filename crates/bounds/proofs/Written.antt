@@ -5,7 +5,7 @@ use native.Mathlib.Omega.{arith}
 use mathlib.Core.Path.{◌≡◌, refl, ap, ap₂, sym, ◌∙◌, subst}
 use mathlib.Core.Bool.{Bool, true, false, ◌&&◌, cond}
 use mathlib.Core.List.Memᴰ
-use mathlib.Core.List.{List, []}
+use mathlib.Core.List.{List, [], flat_map}
 use lib.Dec.{T, leb, leb→le, lit≤}
 use lib.ListN.{length, length-append}
 use mir.Facts.{and_yes}
@@ -26,8 +26,10 @@ use Rattle.tables.proofs.CartRecords.{carts_held}
 use Rattle.tables.proofs.TablesRead.{plan_roads}
 use Rattle.network.specs.Events.{event_count}
 use Rattle.network.specs.Bounds.{Bound, bounds}
-use Rattle.network.specs.BoundArrays.{Puts}
+use Rattle.network.specs.BoundArrays.{bound_ends, bound_range, Puts}
+use Rattle.network.proofs.BoundStores.{none_stored}
 use Rattle.network.specs.declared.BoundArrays.{BoundArrays}
+use Rattle.std.proofs.lemmas.List.Edits.{sets}
 use Rattle.network.proofs.Putting.{puts_none, puts_more}
 use Rattle.network.proofs.Routes.{event_count_is}
 use Rattle.limits.specs.Limits.{of_paths, limits_kept}
@@ -53,7 +55,7 @@ use Rattle.slice.proofs.LaidPlan.{blank, never_short, not_laid, read_laid, sound
 use Rattle.bounds.specs.declared.Network.{Network}
 use Rattle.bounds.specs.declared.Bounding.{Bounding}
 use Rattle.bounds.specs.Counted.{counted, counted_all, rest_of}
-use Rattle.bounds.specs.Bounding.{bounding_of, bounding_held, bounding, Leaves}
+use Rattle.bounds.specs.Bounding.{bounding_of, bounding_held, bounding, Leaves, LeavesIn}
 
 -- ---- the plan in arrays
 
@@ -66,12 +68,21 @@ few_laid s a m h =
 
 -- where no plan is read none is held
 pub unread : (s : List ℕ) (long : plan_need ≤ length s) (x : Answer) → x ≡ (laid_into s blank).answer
-    → (why : HoldError) → x ≡ Err why → (a : BoundArrays) → (Err why ≡ bounding (held s)) × Leaves (held s) a a
+    → (why : HoldError) → x ≡ Err why → (e r : List ℕ) → (Err why ≡ bounding (held s)) × LeavesIn (held s) e r e r
 unfolding bounding bounding_held
-unread s long x is HoldError.TooShort q a = absurd (never_short s long x is q)
-unread s long x is HoldError.NoPlan q a =
+unread s long x is HoldError.TooShort q e r = absurd (never_short s long x is q)
+unread s long x is HoldError.NoPlan q e r =
     let none : held s ≡ None = unlaid_none s (not_laid s long x is HoldError.NoPlan q) in
-    (sym (ap bounding none), record { written = []; puts = puts_none a [] refl; are = λ g f. absurd (none-ne-some _ (sym none ∙ f)) })
+    (sym (ap bounding none), record { written = []; left = none_stored bound_ends e 0 [] refl; left_ranges = none_stored bound_range r 0 [] refl; are = λ g f. absurd (none-ne-some _ (sym none ∙ f)) })
+
+-- what is put from the front of two arrays on
+pub leaves_in : (o : Option Held) (a b : BoundArrays) → a.place ≡ 0 → Leaves o a b → (e r : List ℕ) → e ≡ b.ends.now → r ≡ b.ranges.now → LeavesIn o a.ends.now a.ranges.now e r
+leaves_in o a b front w e r te tr = record {
+  written = w.written;
+  left = te ∙ w.puts.ends ∙ ap (λ (n : ℕ). sets a.ends.now (2 * n) (flat_map bound_ends w.written)) front;
+  left_ranges = tr ∙ w.puts.ranges ∙ ap (λ (n : ℕ). sets a.ranges.now (2 * n) (flat_map bound_range w.written)) front;
+  are = w.are;
+}
 
 -- the plan in the arrays of a struct is that in the arrays
 pub lays_of : (s : List ℕ) (n : Numbers) (a : Arrays) (m : Holding) → numbers_of n ≡ a → size_of n ≡ m.size → Lays s a m → Lays s (numbers_of n) (holding_of n m.reports)

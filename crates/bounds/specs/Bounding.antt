@@ -6,7 +6,7 @@ use mathlib.Core.List.{List, flat_map}
 use Rattle.std.proofs.lemmas.List.Edits.{sets}
 use Rattle.network.specs.Events.{event_count}
 use Rattle.network.specs.Bounds.{Bound, bounds}
-use Rattle.network.specs.BoundArrays.{Puts}
+use Rattle.network.specs.BoundArrays.{bound_ends, bound_range, Puts}
 use Rattle.network.specs.declared.BoundArrays.{BoundArrays}
 use Rattle.schedule.specs.Added.{all_bounds}
 use Rattle.slice.specs.declared.HoldError.{HoldError}
@@ -48,6 +48,13 @@ bounding_left numbers true h e = bounds_left numbers h e
 pub record Leaves (o : Option Held) (a b : BoundArrays) : Type 0 where
   pub written : List Bound
   pub puts : Puts a b written
+  pub are : (h : Held) → o ≡ Some h → written ≡ all_bounds h.plan h.book
+
+-- the same in the front of two arrays: what was in them, and is
+pub record LeavesIn (o : Option Held) (ends ranges ends' ranges' : List ℕ) : Type 0 where
+  pub written : List Bound
+  pub left : ends' ≡ sets ends 0 (flat_map bound_ends written)
+  pub left_ranges : ranges' ≡ sets ranges 0 (flat_map bound_range written)
   pub are : (h : Held) → o ≡ Some h → written ≡ all_bounds h.plan h.book
 
 -- Names every definition of this module, for a proof that computes with them all.

@@ -18,7 +18,7 @@ ghost use Rattle.slice.specs.HeldPlan.{Lays};
 ghost use Rattle.bounds.specs.Writing.{start_to, finish_before};
 ghost use Rattle.bounds.specs.Network.{plan_in, plan_fitting, network_answer, network_bounds, numbers_of, holding_of};
 ghost use Rattle.bounds.specs.Counted.{counted_all, rest_of};
-ghost use Rattle.bounds.specs.Bounding.{bounding_fits, bounding, bounding_held, bounding_answer, bounding_left, Leaves};
+ghost use Rattle.bounds.specs.Bounding.{bounding_fits, bounding, bounding_held, bounding_answer, bounding_left, Leaves, LeavesIn};
 
 use book::Log;
 use collisions::Paths;
@@ -143,11 +143,12 @@ fn write_both(
 fn write_read(
     plan: PlanSlice,
     index: &mut RoadIndex,
-    out: &mut BoundArrays,
+    ends: &mut [u16],
+    ranges: &mut [u64],
 ) -> Result<Bounding, HoldError>
     requires { length index.old.heads.now ≡ 1024 → length index.old.nexts.now ≡ 1024 }
     ensures answer { result ≡ bounding (held plan.entry.bytes.now) }
-    ensures left { Leaves (held plan.entry.bytes.now) out.old out.new }
+    ensures left { LeavesIn (held plan.entry.bytes.now) ends.old ranges.old ends.new ranges.new }
 {
     // Fixed memory: there is no heap.
     let mut edges = [0u32; 4096];
@@ -160,15 +161,25 @@ fn write_read(
     };
     let h = slice::read_laid(plan.bytes, &mut arrays, index)?;
     let numbers = Numbers::laid(h.size, &arrays, index);
-    write_both(plan.bytes, h.reports, &numbers, out).ok_or(HoldError::NoPlan)
+    // Made here, and not by who calls: so the compiler sees that what is stored changes no place and no slice, and keeps them in registers.
+    let mut out = BoundArrays {
+        ends,
+        ranges,
+        place: 0,
+    };
+    write_both(plan.bytes, h.reports, &numbers, &mut out).ok_or(HoldError::NoPlan)
 }
 
 // The same with an index of so many places: one of 1,024, or of 1, which is none. Few moves on few roads need none, and its memory takes longer to clear than
 // it saves.
-fn write_with<const N: usize>(plan: PlanSlice, out: &mut BoundArrays) -> Result<Bounding, HoldError>
+fn write_with<const N: usize>(
+    plan: PlanSlice,
+    ends: &mut [u16],
+    ranges: &mut [u64],
+) -> Result<Bounding, HoldError>
     requires { N ≤ 1024 }
     ensures answer { result ≡ bounding (held plan.entry.bytes.now) }
-    ensures left { Leaves (held plan.entry.bytes.now) out.old out.new }
+    ensures left { LeavesIn (held plan.entry.bytes.now) ends.old ranges.old ends.new ranges.new }
 {
     let mut heads = [0u16; N];
     let mut nexts = [0u16; N];
@@ -176,18 +187,18 @@ fn write_with<const N: usize>(plan: PlanSlice, out: &mut BoundArrays) -> Result<
         heads: &mut heads,
         nexts: &mut nexts,
     };
-    write_read(plan, &mut index, out)
+    write_read(plan, &mut index, ends, ranges)
 }
 
 // One of the two, since a const parameter is a constant: without an index where there is room for 128 bounds at most and the table of roads has at most 192 bytes.
-fn write_laid(plan: PlanSlice, out: &mut BoundArrays) -> Result<Bounding, HoldError>
+fn write_laid(plan: PlanSlice, ends: &mut [u16], ranges: &mut [u64]) -> Result<Bounding, HoldError>
     ensures answer { result ≡ bounding (held plan.entry.bytes.now) }
-    ensures left { Leaves (held plan.entry.bytes.now) out.old out.new }
+    ensures left { LeavesIn (held plan.entry.bytes.now) ends.old ranges.old ends.new ranges.new }
 {
-    if out.ranges.len() <= 256 && plan.bytes[192] == 0 {
-        return write_with::<1>(plan, out);
+    if ranges.len() <= 256 && plan.bytes[192] == 0 {
+        return write_with::<1>(plan, ends, ranges);
     }
-    write_with::<1024>(plan, out)
+    write_with::<1024>(plan, ends, ranges)
 }
 
 // Writes the bounds of the plan that a slice holds, and those that its log adds, to the front of two arrays, as many as there is room for. Where none is
@@ -198,12 +209,7 @@ pub fn write_held(plan: &[u8], ends: &mut [u16], ranges: &mut [u64]) -> Result<B
     ensures left_ranges { ranges.new ≡ bounding_left bound_range (bounding_fits plan.now) (held plan.now) ranges.old }
 {
     let plan = PlanSlice::new(plan).ok_or(HoldError::TooShort)?;
-    let mut out = BoundArrays {
-        ends,
-        ranges,
-        place: 0,
-    };
-    let x = write_laid(plan, &mut out);
+    let x = write_laid(plan, ends, ranges);
     if x.is_err() {
         ends.fill(0);
         ranges.fill(0);

@@ -95,6 +95,8 @@ fn travel_of(roads: &Roads, route: Route, out: &mut BoundArrays) -> u16
         length: 0,
         margin: 0,
     };
+    // a copy stays in registers: behind a reference, where the roads are would be read again at each move
+    let roads = *roads;
     let mut event = route.event;
     for step in route.path.windows(2) {
         if step[0] != step[1] {

@@ -1,5 +1,5 @@
 -- `bounds::write_held` meets its contract: the slice is too short, no plan is held and the arrays are cleared, or its bounds are written. Assumes nothing.
-use Rattle.std.proofs.Common.{rules, ◌≡◌, None, Err, refl, ◌∙◌, sym}
+use Rattle.std.proofs.Common.{rules, ◌≡◌, None, Err, ◌∙◌, sym}
 use Rattle.std.specs.Prelude.{Result}
 use Rattle.slice.specs.declared.HoldError.{HoldError}
 use Rattle.bounds.specs.declared.Bounding.{Bounding}
@@ -20,11 +20,11 @@ same c = c.new.ensures.there c.in_ok-plan.plan (search rules)
 pub returns-then-is_err : goal.returns-then-is_err
 returns-then-is_err c =
     let p = c.in_ok-plan.plan in
-    rw (← same (goal.at.returns-then-is_err c).In_ok-plan) (cleared_plan p.bytes.now p.long c.write_laid-x.result _ c.write_laid-x.new.out refl c.write_laid-x.ensures.answer c.write_laid-x.ensures.left
+    rw (← same (goal.at.returns-then-is_err c).In_ok-plan) (cleared_plan p.bytes.now p.long c.write_laid-x.result _ _ c.write_laid-x.new.ends c.write_laid-x.new.ranges c.write_laid-x.ensures.answer c.write_laid-x.ensures.left
     (sym c.is_err.ensures.value ∙ c.if-is_err.true) _ _ _ _ (search rules) (search rules) (c.fill.ensures.after (λ y e. e)) (c.fill-then-is_err.ensures.after (λ y e. e)))
 
 pub returns-else-is_err : goal.returns-else-is_err
 returns-else-is_err c =
     let p = c.in_ok-plan.plan in
-    rw (← same (goal.at.returns-else-is_err c).In_ok-plan) (written_plan p.bytes.now p.long c.write_laid-x.result _ c.write_laid-x.new.out refl c.write_laid-x.ensures.answer c.write_laid-x.ensures.left
+    rw (← same (goal.at.returns-else-is_err c).In_ok-plan) (written_plan p.bytes.now p.long c.write_laid-x.result _ _ c.write_laid-x.new.ends c.write_laid-x.new.ranges c.write_laid-x.ensures.answer c.write_laid-x.ensures.left
     (sym c.is_err.ensures.value ∙ c.if-is_err.false) _ _ (search rules) (search rules))

@@ -1,5 +1,5 @@
 -- `bounds::write_read` meets its contract: the tables give no plan, or its bounds are written. Assumes nothing.
-use Rattle.std.proofs.Common.{rules, arith, ◌≡◌, ◌∙◌, sym, ap, length, Err}
+use Rattle.std.proofs.Common.{rules, arith, ◌≡◌, refl, ◌∙◌, sym, ap, length, Err}
 use Rattle.std.specs.Prelude.{Option, Result}
 use Rattle.std.specs.Option.{ok_or}
 use Rattle.tables.specs.Lending.{arrays_of}
@@ -10,7 +10,7 @@ use Rattle.slice.proofs.Indexing.{index_held}
 use Rattle.slice.proofs.LaidPlan.{laid_there}
 use Rattle.bounds.specs.declared.Bounding.{Bounding}
 use Rattle.bounds.specs.Bounding.{bounding}
-use Rattle.bounds.proofs.Written.{few_laid, unread, lays_of}
+use Rattle.bounds.proofs.Written.{few_laid, unread, leaves_in, lays_of}
 use Rattle.bounds.proofs.write_read.Goals as goal
 use Rattle.bounds.proofs.write_read.Goals.{In_ok-h}
 
@@ -22,7 +22,7 @@ lays c =
 pub returns-in_err-h : goal.returns-in_err-h
 returns-in_err-h c =
     let is : ◌≡◌ {A = Result Bounding HoldError} c.from_residual.result (Err c.in_err-h.field-0.0) = search rules in
-    let (x, y) = unread c.args.plan.bytes.now c.args.plan.long c.read_laid.result c.read_laid.ensures.answer c.in_err-h.field-0.0 c.in_err-h.was c.args.out.now in
+    let (x, y) = unread c.args.plan.bytes.now c.args.plan.long c.read_laid.result c.read_laid.ensures.answer c.in_err-h.field-0.0 c.in_err-h.was c.args.ends.now c.args.ranges.now in
     record { answer = is ∙ x; left = y }
 
 pub laid-numbers-requires : goal.laid-numbers-requires
@@ -45,5 +45,5 @@ pub returns : goal.returns
 unfolding bounding
 returns c = record {
   answer = c.ok_or.ensures.value ∙ ap (λ (o : Option Bounding). ok_or o HoldError.NoPlan) c.write_both.ensures.answer;
-  left = c.write_both.ensures.left;
+  left = leaves_in _ _ _ refl c.write_both.ensures.left _ _ (search rules) (search rules);
 }
