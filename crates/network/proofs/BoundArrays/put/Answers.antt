@@ -7,6 +7,19 @@ use Rattle.std.proofs.Common.{rules}
 use Rattle.network.specs.BoundArrays.{bound_ends, bound_range, hi_number, hi_kept}
 use Rattle.network.proofs.BoundArrays.put.Goals as goal
 
+pub returns-then-self-min : goal.returns-then-self-min
+unfolding bound_ends bound_range hi_number hi_kept flat_map
+returns-then-self-min c =
+    let a = c.args in
+    let after : c.map_or-after.result ≡ hi_number (hi_kept a.bound.hi) = search rules in
+    record {
+      same_ends = refl;
+      same_ranges = refl;
+      ends = c.put_both.ensures;
+      ranges = c.put_both-then-self-min.ensures ∙ ap (λ (n : ℕ). sets a.self.now.ranges.now (2 * a.self.now.place) (a.bound.lo ∷ n ∷ [])) after;
+      place = search rules;
+    }
+
 pub returns : goal.returns
 unfolding bound_ends bound_range hi_number hi_kept flat_map
 returns c =
