@@ -1,7 +1,7 @@
 -- Times of sums, and times written one behind the other. Assumes nothing.
-use Rattle.std.specs.Prelude.{None, Some, Result, Ok, Err}
-use Rattle.std.specs.Result.{OkIff, result_unwrap_or}
-use Rattle.std.specs.Int.{FitsUnsignedBits}
+use Rattle.std.specs.Prelude.{None, Some, int_lt}
+use Rattle.std.specs.Int.{int_max}
+use Rattle.std.proofs.lemmas.Int.{ints}
 use Prim.Native.Nat.{ℕ, ◌+◌, ◌*◌, ◌≤◌, ◌<◌}
 use native.Mathlib.Numerals.{add-one}
 use native.Mathlib.Omega.{arith}
@@ -12,8 +12,6 @@ use lib.Dec.{eqb}
 use lib.IntN.{ℤ, pos, negsuc, nat_abs}
 use lib.ListN.{length, get_or, take, length-map}
 use lib.Seq.{take-suc, take_all, length-take-le}
-use mir.Syntax.{w64}
-use mir.Val.{SFits}
 use Rattle.words.specs.Words.{words, with_word, written}
 use Rattle.words.proofs.Storing.{word_behind}
 use Rattle.walks.specs.Passes.{same_number}
@@ -23,13 +21,15 @@ use Rattle.passes.proofs.Marks.{map_behind}
 
 -- ---- the time of a sum
 
--- one that is not below 0 is its time as it is, and any other has the time 0, as the mark has
-pub time_read : (z : ℤ) → SFits w64 z → {E : Type 0} (r : Result ℕ E) → OkIff r (FitsUnsignedBits 64 z) (nat_abs z) → result_unwrap_or r 0 ≡ time (sum_at z)
+-- the greater of it and 0, also of the mark
+pub time_read : (z m : ℤ) → m ≡ int_max z (pos 0) → nat_abs m ≡ time (sum_at z)
 unfolding sum_at same_number time
-time_read (pos n) f (Ok x) h = h.1
-time_read (pos n) f (Err e) h = absurd (let fits : n < 18_446_744_073_709_551_616 = omega (arith, f.sfits) in h fits)
-time_read (negsuc n) f (Ok x) h = absurd h.0
-time_read (negsuc n) f (Err e) h = by (eqb n 4_611_686_018_427_387_903)
+time_read (pos n) m e = ap nat_abs e ∙ by (int_lt (pos 0) (pos n)) refl
+  where
+    by : (b : Bool) → int_lt (pos 0) (pos n) ≡ b → nat_abs (cond b (pos n) (pos 0)) ≡ n
+    by true h = refl
+    by false h = omega (arith, ints, h)
+time_read (negsuc n) m e = ap nat_abs e ∙ by (eqb n 4_611_686_018_427_387_903)
   where
     by : (b : Bool) → 0 ≡ time (cond b None (Some (negsuc n)))
     by true = refl

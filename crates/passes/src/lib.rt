@@ -28,7 +28,7 @@ ghost use Rattle.passes.specs.Networks.{bounds_of};
 ghost use Rattle.passes.specs.Sweeps.{FindsIn};
 ghost use Rattle.passes.specs.Lending.{lent_of, room_of, SameSlices, SameRoom};
 
-use arrays::{Network, Place};
+use arrays::{First, Network, Place};
 pub use fits::BoundSlices;
 use left::Left;
 pub use lent::Lent;
@@ -62,7 +62,7 @@ enum Found {
 fn time_of(sum: i64) -> u64
     ensures { result ≡ time (sum_at sum) }
 {
-    u64::try_from(sum).unwrap_or(0)
+    sum.max(0) as u64
 }
 
 // Writes the times of sums to the front of a slice.
@@ -198,7 +198,11 @@ fn first_sweeps(sweeping: &mut Sweeping)
     ensures { sweeping.new.net.now ≡ sweeping.old.net.now }
 {
     let net = sweeping.net;
-    sweeping::sweeps(sweeping, first_count(net), 1);
+    let first = First {
+        net,
+        count: first_count(net),
+    };
+    sweeping::first_sweep(first, sweeping.values, sweeping.parents);
     if net.events < net.own {
         sweeping::sweeps(sweeping, net.own, 1);
     }

@@ -77,13 +77,24 @@ fn raise_unless_allowed(bound: Place, values: &mut [i64], parents: &mut [u16]) -
     true
 }
 
+// The first sweep over bounds. It raises most of them, so that it does not ask first.
+pub(crate) fn first_sweep(first: First, values: &mut [i64], parents: &mut [u16])
+    requires { Kept first.net.now values.old parents.old }
+    ensures { Kept first.entry.net.now values.new parents.new }
+{
+    // a copy stays in registers: behind a reference, where the arrays are would be read again at each bound
+    let net = *first.net;
+    for i in 0..first.count {
+        raise_bound(Place { net: &net, i }, values, parents);
+    }
+}
+
 // One sweep over bounds; the place of the last that was not allowed, if there was one.
 fn sweep(first: First, values: &mut [i64], parents: &mut [u16]) -> Option<usize>
     requires { Kept first.net.now values.old parents.old }
     ensures place { IfSome result (λ i. i < first.entry.count) }
     ensures kept { Kept first.entry.net.now values.new parents.new }
 {
-    // a copy stays in registers: behind a reference, where the arrays are would be read again at each bound
     let net = *first.net;
     let mut last = None;
     for i in 0..first.count {
